@@ -1,0 +1,7 @@
+pub mod Tests
+pub mod Keep
+pub mod Maps
+pub mod Counting
+pub mod Sorting
+pub mod Bytes
+pub mod Over

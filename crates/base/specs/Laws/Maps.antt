@@ -1,0 +1,63 @@
+-- Laws of lists under a map that the tests do not see, and of maps over one list.
+-- Assumes nothing.
+use mathlib.Core.Path.{_≡_, refl}
+use mathlib.Core.Bool.{Bool, true}
+use mathlib.Core.List.{List, [], _∷_, map}
+use Rattle.base.specs.Lists.{keep, any, all, first, firstAt}
+use Rattle.base.specs.Sort.{place, sort}
+use Rattle.base.specs.Laws.Tests.{byTest, and-l, and-r}
+
+-- proved already, handed on
+pub use mathlib.Core.List.{map-map, map-append}
+
+module _ {A B : Type 0} (f : A → B) where
+  -- ---- tests that the map does not change
+  module _ (p : A → Bool) (p′ : B → Bool) (h : (x : A) → p′ (f x) ≡ p x) where
+    pub any-map : (l : List A) → any p′ (map f l) ≡ any p l
+    any-map [] = refl
+    any-map (x ∷ l) = cc (h x, any-map l)
+
+    pub all-map : (l : List A) → all p′ (map f l) ≡ all p l
+    all-map [] = refl
+    all-map (x ∷ l) = cc (h x, all-map l)
+
+    pub keep-map : (l : List A) → keep p′ (map f l) ≡ map f (keep p l)
+    keep-map [] = refl
+    keep-map (x ∷ l) = rw (h x, keep-map l) (byTest (p x) (λ t. rw t) (λ t. rw t))
+
+    pub first-map : (d : A) (l : List A) → first p′ (f d) (map f l) ≡ f (first p d l)
+    first-map d [] = refl
+    first-map d (x ∷ l) = rw (h x, first-map d l) (byTest (p x) (λ t. rw t) (λ t. rw t))
+
+    pub firstAt-map : (l : List A) → firstAt p′ (map f l) ≡ firstAt p l
+    firstAt-map [] = refl
+    firstAt-map (x ∷ l) = cc (h x, firstAt-map l)
+
+  -- ---- a relation that the map does not change
+  module _ (le : A → A → Bool) (le′ : B → B → Bool) (h : (x y : A) → le′ (f x) (f y) ≡ le x y) where
+    pub place-map : (x : A) (l : List A) → place le′ (f x) (map f l) ≡ map f (place le x l)
+    place-map x [] = refl
+    place-map x (y ∷ l) = rw (h x y, place-map x l) (byTest (le x y) (λ t. rw t) (λ t. rw t))
+
+    pub sort-map : (l : List A) → sort le′ (map f l) ≡ map f (sort le l)
+    sort-map [] = refl
+    sort-map (x ∷ l) = rw (sort-map l) (place-map x (sort le l))
+
+  -- ---- maps
+  pub map-swap : (g : A → A) (g′ : B → B) → ((x : A) → g′ (f x) ≡ f (g x)) → (l : List A) → map g′ (map f l) ≡ map f (map g l)
+  map-swap g g′ h [] = refl
+  map-swap g g′ h (x ∷ l) = cc (h x, map-swap g g′ h l)
+
+  pub map-same : (g : A → B) → ((x : A) → f x ≡ g x) → (l : List A) → map f l ≡ map g l
+  map-same g h [] = refl
+  map-same g h (x ∷ l) = cc (h x, map-same g h l)
+
+pub map-id : {A : Type 0} (f : A → A) → ((x : A) → f x ≡ x) → (l : List A) → map f l ≡ l
+map-id f h [] = refl
+map-id f h (x ∷ l) = cc (h x, map-id f h l)
+
+-- two maps that agree on what passes a test
+pub map-all-same : {A B : Type 0} (p : A → Bool) (f g : A → B) → ((x : A) → p x ≡ true → f x ≡ g x) → (l : List A) → all p l ≡ true
+    → map f l ≡ map g l
+map-all-same p f g i [] h = refl
+map-all-same p f g i (x ∷ l) h = cc (i x (and-l (p x) (all p l) h), map-all-same p f g i l (and-r (p x) (all p l) h))

@@ -1,0 +1,62 @@
+-- What is written over the front of a list: its length, what is read in it, and one more. Assumes nothing.
+use mathlib.Core.Path.{_≡_, refl, sym, ap, _∙_}
+use mathlib.Core.List.{List, [], _∷_, _++_}
+use Prim.Native.Nat.{ℕ, zero, suc, _+_, _-_, _<_, _≤_}
+use native.Mathlib.Numerals.{add-one}
+use native.Mathlib.Omega.{arith}
+use lib.ListN.{length, take, drop, getD, set, length-append, length-drop, List·getD-append}
+use lib.Seq.{drop-cons, set-append-seam, getD-append-add, getD-drop, take-append-seam, drop-append-seam, drop-append-add, drop-drop, append-snoc}
+use Rattle.base.specs.Lists.{over}
+
+module _ {A : Type 0} where
+  pub over-nil : (l : List A) → over [] l ≡ l
+  over-nil l = refl
+
+  pub length-over : (ks l : List A) → length ks ≤ length l → length (over ks l) ≡ length l
+  length-over ks l h = simp (length-append, length-drop) (omega arith)
+
+  pub take-over : (ks l : List A) → take (length ks) (over ks l) ≡ ks
+  take-over ks l = take-append-seam ks (drop (length ks) l)
+
+  pub drop-over : (ks l : List A) → drop (length ks) (over ks l) ≡ drop (length ks) l
+  drop-over ks l = drop-append-seam ks (drop (length ks) l)
+
+  -- past it all is as it was; in it is what was written
+  pub over-read : (ks l : List A) (i : ℕ) (d : A) → length ks ≤ i → getD (over ks l) i d ≡ getD l i d
+  over-read ks l i d h =
+      let e : length ks + (i - length ks) ≡ i = omega arith in
+      ap (λ (m : ℕ). getD (over ks l) m d) (sym e) ∙ getD-append-add ks (drop (length ks) l) (i - length ks) d
+      ∙ getD-drop (length ks) l (i - length ks) d ∙ ap (λ (m : ℕ). getD l m d) e
+
+  pub over-front : (ks l : List A) (i : ℕ) (d : A) → i < length ks → getD (over ks l) i d ≡ getD ks i d
+  over-front ks l i d h = List·getD-append ks (drop (length ks) l) d i h
+
+  pub over-drop : (ks l : List A) (n : ℕ) → length ks ≤ n → drop n (over ks l) ≡ drop n l
+  over-drop ks l n h =
+      let e : length ks + (n - length ks) ≡ n = omega arith in
+      ap (λ (m : ℕ). drop m (over ks l)) (sym e) ∙ drop-append-add ks (drop (length ks) l) (n - length ks)
+      ∙ drop-drop (n - length ks) (length ks) l ∙ ap (λ (m : ℕ). drop m l) e
+
+  -- a longer one hides it
+  pub over-over : (ks js l : List A) → length js ≤ length ks → over ks (over js l) ≡ over ks l
+  over-over ks js l h = ap (λ (r : List A). ks ++ r) (over-drop js l (length ks) h)
+
+  -- one more is written
+  pub over-snoc : (ks l : List A) (v : A) → over (ks ++ (v ∷ [])) l ≡ ks ++ (v ∷ drop (suc (length ks)) l)
+  over-snoc ks l v = rw (length-append ks (v ∷ []), add-one (length ks)) (append-snoc ks v (drop (suc (length ks)) l))
+
+  pub over-set : (ks l : List A) (v : A) → length ks < length l → set (over ks l) (length ks) v ≡ over (ks ++ (v ∷ [])) l
+  over-set ks l v h =
+      ap (λ (x : List A). set (ks ++ x) (length ks) v) (drop-cons l (length ks) v h)
+      ∙ set-append-seam ks (getD l (length ks) v) (drop (suc (length ks)) l) v
+      ∙ sym (over-snoc ks l v)
+
+  -- what stands there is written
+  pub over-next : (ks l : List A) (d : A) → length ks < length l → over (ks ++ (getD l (length ks) d ∷ [])) l ≡ over ks l
+  over-next ks l d h = over-snoc ks l (getD l (length ks) d) ∙ ap (λ (r : List A). ks ++ r) (sym (drop-cons l (length ks) d h))
+
+  -- its own front is written
+  pub over-self : (n : ℕ) (l : List A) → over (take n l) l ≡ l
+  over-self zero l = refl
+  over-self (suc n) [] = refl
+  over-self (suc n) (x ∷ l) = ap (λ (r : List A). x ∷ r) (over-self n l)

@@ -1,0 +1,5 @@
+pub mod Choice
+pub mod Lists
+pub mod Sort
+pub mod Bytes
+pub mod Laws

@@ -1,0 +1,1 @@
+// The words every part uses, and their laws: they stand in specs/.

@@ -1,0 +1,10 @@
+pub mod Limits
+pub mod Plans
+pub mod Queues
+pub mod Interval
+pub mod Handlers
+pub mod State
+pub mod Commands
+pub mod Lists
+pub mod Demands
+pub mod Examples
