@@ -8,3 +8,4 @@ pub mod Commands
 pub mod Lists
 pub mod Demands
 pub mod Examples
+pub mod Laws

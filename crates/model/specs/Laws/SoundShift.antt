@@ -15,7 +15,7 @@ use Rattle.model.specs.Limits.{Limits, isData}
 use Rattle.model.specs.Interval.{Phase, Waiting, Expired, Active, Request, Interval, active, activeTask, noneOrKnown, soundPhase, soundRequest, running, held, soundInterval}
 use Rattle.model.specs.Handlers.{Task}
 use Rattle.model.specs.State.{State, sound}
-use Rattle.model.proofs.Shift.{laterPhase, later, shiftInterval, shift, active-later, task-shift}
+use Rattle.model.specs.Laws.Shift.{laterPhase, later, shiftInterval, shift, active-later, task-shift}
 
 module _ (k : ℕ) (L : Limits) (i : Interval) where
   phase-shift : (b : List ℕ) (p : Phase) → soundPhase L (i .clock + k) b (laterPhase k p) ≡ soundPhase L (i .clock) b p

@@ -13,7 +13,7 @@ use Rattle.model.specs.State.{State, emptyAt}
 use Rattle.model.specs.Commands.{step}
 use Rattle.model.specs.Lists.{answersFrom}
 use Rattle.model.specs.Demands.{Monitor, Demand3, Moved, answers, areBytes, retick, reticked}
-use Rattle.model.proofs.Shift.{shift, state-shift, answer-shift}
+use Rattle.model.specs.Laws.Shift.{shift, state-shift, answer-shift}
 
 module _ (L : Limits) where
   -- the model's answers, its tables moved on by k

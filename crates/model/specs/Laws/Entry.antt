@@ -17,8 +17,8 @@ use Rattle.model.specs.State.{State, emptyAt}
 use Rattle.model.specs.Commands.{step}
 use Rattle.model.specs.Lists.{Framed, bad, good, behind, whole, records, headed, framed, answersFrom, Ran, refusal, answered, ran, run}
 use Rattle.model.specs.Demands.{ListDemands, retick, reticked}
-use Rattle.model.proofs.Shift.{shift, state-shift, answer-same}
-use Rattle.model.proofs.Moved.{from-two, round}
+use Rattle.model.specs.Laws.Shift.{shift, state-shift, answer-same}
+use Rattle.model.specs.Laws.Moved.{from-two, round}
 
 -- ---- an accepted list tells its header's start value
 

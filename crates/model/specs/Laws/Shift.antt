@@ -24,7 +24,7 @@ use Rattle.model.specs.State.{State, withInterval, withoutTask}
 use Rattle.model.specs.Commands
 use Rattle.model.specs.Commands.{Answer, Turn, Row, command, issuer, operand, rowOf, planOf, obeyPlan, obeyed, says, settled, settle, plain, refused, formed, allowed, step}
 use Rattle.model.specs.Demands.{retick}
-use Rattle.model.proofs.Rows.{of-every}
+use Rattle.model.specs.Laws.Rows.{of-every}
 
 -- ---- moved on by k ticks
 
