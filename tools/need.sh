@@ -7,12 +7,9 @@ need_rattle() {
   exit 1
 }
 
-# Rust is a Debian package: it is installed where it is missing.
+# Debian's own Rust is too old for the second program (its Cargo.toml names the version): it must be there too.
 need_cargo() {
   command -v cargo >/dev/null 2>&1 && return
-  if [ "$(id -u)" != 0 ] || ! command -v apt-get >/dev/null 2>&1; then
-    echo "cargo is not on the PATH: install Rust first (Debian: apt-get install cargo)" >&2
-    exit 1
-  fi
-  apt-get update -q >&2 && apt-get install -y -q cargo >&2
+  echo "cargo is not on the PATH: install Rust 1.88 or newer first" >&2
+  exit 1
 }

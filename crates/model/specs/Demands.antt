@@ -78,7 +78,7 @@ pub record Demand1 (M : Monitor) : Type 0 where
   pub stranger : (t : M .Tables) (s : State) (r : List ℕ) → isBytes r ≡ true → M .Sound t → M .Stands t s → formed r ≡ true → allowed s r ≡ false → M .step t r ≡ record { answer = plain 34; tables = t }
   pub heard : (t : M .Tables) (s : State) (r : List ℕ) → Heard M t s r → M .step t r .answer .condition ≤ 10
   pub kept : (t : M .Tables) (s : State) (r : List ℕ) → Heard M t s r → (M .step t r .answer .condition ≡ normal → ⊥)
-    → (s′ : State) × (M .Stands (M .step t r .tables) s′ × Kept s r (M .step t r .answer) s′)
+      → (s′ : State) × (M .Stands (M .step t r .tables) s′ × Kept s r (M .step t r .answer) s′)
 
 -- ---- demand 2: from sound tables each command does what the model does
 
@@ -165,7 +165,7 @@ pub record ListDemands (L : Limits) (entry : List ℕ → List ℕ → Ran) : Ty
   pub short : (l b : List ℕ) (v : ℕ) (rs : List (List ℕ)) → isBytes l ≡ true → framed l ≡ good v rs → length b < 74 * length rs → entry l b ≡ refusal 36 b
   -- otherwise the model's answers, at any clock that the start value can mean, and each byte behind them as it was
   pub runs : (l b : List ℕ) (v c : ℕ) (rs : List (List ℕ)) → isBytes l ≡ true → framed l ≡ good v rs → 74 * length rs ≤ length b → c % 2 ^ 32 ≡ v
-    → entry l b ≡ answered (answersFrom L (emptyAt c) rs) b
+      → entry l b ≡ answered (answersFrom L (emptyAt c) rs) b
   -- the same records from two start values
   pub moved : (l m b : List ℕ) (v w : ℕ) (rs : List (List ℕ)) → isBytes l ≡ true → isBytes m ≡ true → framed l ≡ good v rs → framed m ≡ good w rs → 74 * length rs ≤ length b
-    → entry m b ≡ answered (reticked (w + 2 ^ 32 - v) rs (answersFrom L (emptyAt v) rs)) b
+      → entry m b ≡ answered (reticked (w + 2 ^ 32 - v) rs (answersFrom L (emptyAt v) rs)) b

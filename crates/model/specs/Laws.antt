@@ -20,3 +20,4 @@ pub mod Serves
 pub mod Itself
 pub mod Entry
 pub mod Useless
+pub mod UselessOnes

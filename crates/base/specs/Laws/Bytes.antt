@@ -20,6 +20,9 @@ use Rattle.base.specs.Laws.Keep.{all-append, all-take, all-drop}
 pub isBytes-append : (a b : List ℕ) → isBytes (a ++ b) ≡ (isBytes a && isBytes b)
 isBytes-append a b = all-append isByte a b
 
+pub isBytes-join : (a b : List ℕ) → isBytes a ≡ true → isBytes b ≡ true → isBytes (a ++ b) ≡ true
+isBytes-join a b e f = isBytes-append a b ∙ and-i e f
+
 pub isBytes-take : (n : ℕ) (l : List ℕ) → isBytes l ≡ true → isBytes (take n l) ≡ true
 isBytes-take n l h = all-take isByte n l h
 
@@ -66,8 +69,8 @@ length-bytesOf (suc n) x = rw (length-append (bytesOf n (x / 256)) (x % 256 ∷ 
 pub isBytes-bytesOf : (n x : ℕ) → isBytes (bytesOf n x) ≡ true
 isBytes-bytesOf zero x = refl
 isBytes-bytesOf (suc n) x =
-    isBytes-append (bytesOf n (x / 256)) (x % 256 ∷ [])
-    ∙ and-i (isBytes-bytesOf n (x / 256)) (and-i (lt-ltb (x % 256) 256 (mod-lt x (zero-lt-suc 255))) refl)
+    isBytes-join (bytesOf n (x / 256)) (x % 256 ∷ []) (isBytes-bytesOf n (x / 256))
+    (and-i (lt-ltb (x % 256) 256 (mod-lt x (zero-lt-suc 255))) refl)
 
 pub num-bytesOf : (n x : ℕ) → x < 256 ^ n → numFrom 0 (bytesOf n x) ≡ x
 num-bytesOf zero x h = let g : x < 1 = rw pow-zero at h in omega arith

@@ -3,11 +3,11 @@
 use Prim.Native.Nat.{ℕ, zero, suc, _+_, _<_, _≤_}
 use mathlib.Core.Path.{_≡_, refl, sym, ap, _∙_}
 use mathlib.Core.Bool.{Bool, true, false, not, _&&_, _||_}
-use mathlib.Core.List.{List, [], _∷_, _++_}
+use mathlib.Core.List.{List, [], _∷_, _++_, append-nil}
 use native.Mathlib.Omega.{arith}
 use lib.ListN.{length, getD, set, take, drop, replicate}
 use Rattle.base.specs.Lists.{keep, any, all, first, firstAt}
-use Rattle.base.specs.Laws.Tests.{byTest, no, and-l, and-r}
+use Rattle.base.specs.Laws.Tests.{byTest, no, and-l, and-r, or-l, is-false}
 
 module _ {A : Type 0} (p : A → Bool) where
   -- ---- one test
@@ -18,6 +18,13 @@ module _ {A : Type 0} (p : A → Bool) where
   pub any-append : (l m : List A) → any p (l ++ m) ≡ (any p l || any p m)
   any-append [] m = refl
   any-append (x ∷ l) m = byTest (p x) (λ t. rw t) (λ t. rw (t, any-append l m))
+
+  -- more behind it
+  pub any-more : (l m : List A) → any p l ≡ true → any p (l ++ m) ≡ true
+  any-more l m h = any-append l m ∙ or-l (any p l) (any p m) h
+
+  pub keep-snoc : (l : List A) (x : A) → p x ≡ false → keep p (l ++ (x ∷ [])) ≡ keep p l
+  keep-snoc l x e = rw (keep-append l (x ∷ []), e) (append-nil (keep p l))
 
   pub all-append : (l m : List A) → all p (l ++ m) ≡ (all p l && all p m)
   all-append [] m = refl
@@ -163,6 +170,16 @@ module _ {A : Type 0} (p q : A → Bool) where
     pub any-imp : (l : List A) → any p l ≡ true → any q l ≡ true
     any-imp [] h = h
     any-imp (x ∷ l) h = byTest (p x) (λ t. rw (i x t)) (λ t. byTest (q x) (λ u. rw u) (λ u. rw u (any-imp l (rw t at h))))
+
+    pub none-imp : (l : List A) → any q l ≡ false → any p l ≡ false
+    none-imp l h = is-false (any p l) (λ e. no (sym h ∙ any-imp l e))
+
+    -- kept where the other lets it
+    pub any-kept-imp : (l : List A) → any p l ≡ true → any p (keep q l) ≡ true
+    any-kept-imp [] h = h
+    any-kept-imp (x ∷ l) h =
+        byTest (p x) (λ t. rw (i x t, t))
+        (λ t. let r = any-kept-imp l (rw t at h) in byTest (q x) (λ u. rw (u, t) r) (λ u. rw u r))
 
     pub all-kept-imp : (l : List A) → all q (keep p l) ≡ true
     all-kept-imp l = all-imp (keep p l) (all-kept p l)

@@ -1,12 +1,12 @@
--- Laws of lists under a map that the tests do not see, and of maps over one list.
+-- Laws of lists under a map that the tests do not see, or that brings one test to another, and of maps over one list.
 -- Assumes nothing.
-use mathlib.Core.Path.{_≡_, refl}
-use mathlib.Core.Bool.{Bool, true}
+use mathlib.Core.Path.{_≡_, refl, sym}
+use mathlib.Core.Bool.{Bool, true, false}
 use mathlib.Core.List.{List, [], _∷_, map}
+use Rattle.base.specs.Choice.{pick}
 use Rattle.base.specs.Lists.{keep, any, all, first, firstAt}
 use Rattle.base.specs.Sort.{place, sort}
-use Rattle.base.specs.Laws.Tests.{byTest, and-l, and-r}
-
+use Rattle.base.specs.Laws.Tests.{byTest, no, and-l, and-r, and-i}
 -- proved already, handed on
 pub use mathlib.Core.List.{map-map, map-append}
 
@@ -33,6 +33,22 @@ module _ {A B : Type 0} (f : A → B) where
     firstAt-map [] = refl
     firstAt-map (x ∷ l) = cc (h x, firstAt-map l)
 
+  -- ---- one test to another
+  module _ (p : A → Bool) (q : B → Bool) (i : (x : A) → p x ≡ true → q (f x) ≡ true) where
+    pub all-map-imp : (l : List A) → all p l ≡ true → all q (map f l) ≡ true
+    all-map-imp [] h = refl
+    all-map-imp (x ∷ l) h = and-i (i x (and-l (p x) (all p l) h)) (all-map-imp l (and-r (p x) (all p l) h))
+
+    pub any-map-imp : (l : List A) → any p l ≡ true → any q (map f l) ≡ true
+    any-map-imp [] h = h
+    any-map-imp (x ∷ l) h =
+        byTest (p x) (λ t. rw (i x t)) (λ t. byTest (q (f x)) (λ u. rw u) (λ u. rw u (any-map-imp l (rw t at h))))
+
+  -- what the map makes does not pass
+  pub keep-map-none : (q : B → Bool) → ((x : A) → q (f x) ≡ false) → (l : List A) → keep q (map f l) ≡ []
+  keep-map-none q h [] = refl
+  keep-map-none q h (x ∷ l) = rw (h x) (keep-map-none q h l)
+
   -- ---- a relation that the map does not change
   module _ (le : A → A → Bool) (le′ : B → B → Bool) (h : (x y : A) → le′ (f x) (f y) ≡ le x y) where
     pub place-map : (x : A) (l : List A) → place le′ (f x) (map f l) ≡ map f (place le x l)
@@ -55,6 +71,11 @@ module _ {A B : Type 0} (f : A → B) where
 pub map-id : {A : Type 0} (f : A → A) → ((x : A) → f x ≡ x) → (l : List A) → map f l ≡ l
 map-id f h [] = refl
 map-id f h (x ∷ l) = cc (h x, map-id f h l)
+
+-- a change of what passes a test, where none does
+pub map-none : {A : Type 0} (q : A → Bool) (g : A → A) (l : List A) → any q l ≡ false → map (λ (x : A). pick (q x) (g x) x) l ≡ l
+map-none q g [] h = refl
+map-none q g (x ∷ l) h = byTest (q x) (λ t. no (sym (rw t at h))) (λ t. rw (t, map-none q g l (rw t at h)))
 
 -- two maps that agree on what passes a test
 pub map-all-same : {A B : Type 0} (p : A → Bool) (f g : A → B) → ((x : A) → p x ≡ true → f x ≡ g x) → (l : List A) → all p l ≡ true

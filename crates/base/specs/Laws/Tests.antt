@@ -1,7 +1,7 @@
 -- What a test's value tells: the Booleans' connectives, the tests on numbers, and a choice by a test.
 -- Assumes nothing.
 use Prim.Native.Nat.{ℕ, _+_, _<_, _≤_}
-use mathlib.Core.Path.{_≡_, refl, sym}
+use mathlib.Core.Path.{_≡_, refl, sym, _∙_}
 use mathlib.Core.Bool.{Bool, true, false, _&&_, _||_, false≢true}
 use lib.Dec.{leb, ltb, eqb}
 use native.Mathlib.Omega.{arith}
@@ -24,8 +24,16 @@ pub and-r : (a b : Bool) → (a && b) ≡ true → b ≡ true
 and-r true b e = e
 and-r false b e = no e
 
+pub both : (a b : Bool) → (a && b) ≡ true → (a ≡ true) × (b ≡ true)
+both a b e = (and-l a b e, and-r a b e)
+
 pub and-i : {a b : Bool} → a ≡ true → b ≡ true → (a && b) ≡ true
 and-i e f = rw (e, f)
+
+-- not both, and the second is: not the first
+pub and-false-l : (a b : Bool) → (a && b) ≡ false → b ≡ true → a ≡ false
+and-false-l true b e f = sym f ∙ e
+and-false-l false b e f = refl
 
 pub or-l : (a b : Bool) → a ≡ true → (a || b) ≡ true
 or-l a b e = rw e
@@ -37,6 +45,19 @@ or-r false b e = e
 pub or-elim {ℓ} : {P : Type ℓ} (a b : Bool) → (a || b) ≡ true → (a ≡ true → P) → (b ≡ true → P) → P
 or-elim true b e f g = f refl
 or-elim false b e f g = g e
+
+-- neither
+pub or-false-l : (a b : Bool) → (a || b) ≡ false → a ≡ false
+or-false-l true b e = e
+or-false-l false b e = refl
+
+pub or-false-r : (a b : Bool) → (a || b) ≡ false → b ≡ false
+or-false-r true b e = no (sym e)
+or-false-r false b e = e
+
+pub is-false : (b : Bool) → (b ≡ true → ⊥) → b ≡ false
+is-false true h = absurd (h refl)
+is-false false h = refl
 
 pub bool-ext : (a b : Bool) → (a ≡ true → b ≡ true) → (b ≡ true → a ≡ true) → a ≡ b
 bool-ext true b f g = sym (f refl)
@@ -68,6 +89,15 @@ pick-map f false x y = refl
 pub pick-same : {A : Type 0} (b : Bool) (x : A) → pick b x x ≡ x
 pick-same true x = refl
 pick-same false x = refl
+
+pub pick-self : (b : Bool) → pick b true false ≡ b
+pick-self true = refl
+pick-self false = refl
+
+-- it is not the first: the test fails, and it is the second
+pub pick-second : {A : Type 0} (b : Bool) (x y z : A) → (x ≡ z → ⊥) → pick b x y ≡ z → (b ≡ false) × (y ≡ z)
+pick-second true x y z h e = absurd (h e)
+pick-second false x y z h e = (refl, e)
 
 pub pick-elim : {A : Type 0} (P : A → Type 0) (b : Bool) (x y : A) → (b ≡ true → P x) → (b ≡ false → P y) → P (pick b x y)
 pick-elim P true x y t f = t refl

@@ -3,7 +3,7 @@
 -- Assumes nothing.
 use Prim.Native.Nat.{ℕ, suc, zero, _+_, _≤_}
 use native.Mathlib.Omega.{arith}
-use mathlib.Core.Path.{_≡_, refl, sym}
+use mathlib.Core.Path.{_≡_, refl}
 use mathlib.Core.Logic.{_⊎_, inl, inr}
 use mathlib.Core.Bool.{Bool, true, false, _||_}
 use mathlib.Core.List.{List, [], _∷_}
@@ -13,7 +13,7 @@ use borrow.Author.Tests.{leb-true}
 use Rattle.base.specs.Choice.{pick}
 use Rattle.base.specs.Lists.{all, any, first, firstAt}
 use Rattle.base.specs.Bytes.{blank}
-use Rattle.base.specs.Laws.Tests.{byTest, no, and-l, and-r, pick-elim}
+use Rattle.base.specs.Laws.Tests.{byTest, and-l, and-r, or-false-r, pick-elim}
 use Rattle.base.specs.Laws.Keep.{firstAt-le}
 use Rattle.model.specs.Limits.{Limits}
 use Rattle.model.specs.Plans.{normal, noSpace, wrongLength, Check, firstOf, Outcome, Plan, fault, done, cut, obey, outcomeIn, planIn}
@@ -23,12 +23,7 @@ use Rattle.model.specs.Handlers.{Setting, Unset, Ignore, Label, decides,
 use Rattle.model.specs.State.{State, withInterval, withQueues, withoutTask}
 use Rattle.model.specs.Commands.{Row, command, issuer, operand, rest, table, rowOf, formed, allowed, obeyPlan, planOf, obeyed, Turn, says, settled, settle, refused, step}
 use Rattle.model.specs.Demands.{placeRead, Named, nothing, makes, moves, takes, removes, Kept}
-use Rattle.model.specs.Laws.Rows.{Each, of-every}
-
-infixr 5 _▹_
--- what is so of a row, and then of the rows behind it
-pub _▹_ : {P Q : Type 0} → P → Q → P × Q
-p ▹ q = (p, q)
+use Rattle.model.specs.Laws.Rows.{Each, _▹_, of-every}
 
 -- ---- the effects that are a choice, as one of their two outcomes
 
@@ -57,24 +52,23 @@ pub append-is : (Q : Outcome (List Queue) → Type 0) (L : Limits) (may : ℕ) (
 unfolding append
 append-is Q L may l n b f g = pick-elim Q (leb may (itemsIn l)) (fault (made l n) noSpace) (done (atQueue n (longer b) (made l n)) (length (queueOf l n .items) + 1)) f g
 
+-- what the handlers make of an outcome
+pub settle-is : (Q : Turn → Type 0) (s : State) (n : ℕ) (o : Outcome State) → Q (settled o n Ignore) → Q (settled o n (decides (s .tasks) n (o .condition)))
+    → Q (settle s n o)
+settle-is Q s n o f g =
+    pick-elim Q (eqb (o .condition) normal || eqb n (blank 8)) (settled o n Ignore) (settled o n (decides (s .tasks) n (o .condition))) (λ _. f) (λ _. g)
+
 -- ---- checks
 
 -- the conditions of the checks are of 0..10
 abbrev low : List Check → Bool
 low l = all (λ (k : Check). leb (k .gives) 10) l
 
-pick-low : (b : Bool) (c n : ℕ) → c ≤ 10 → n ≤ 10 → pick b c n ≤ 10
-pick-low b c n h k = pick-elim (λ m. m ≤ 10) b c n (λ _. h) (λ _. k)
-
 first-low : (l : List Check) → low l ≡ true → firstOf l ≤ 10
 first-low [] h = omega arith
 first-low (k ∷ l) h =
-    pick-low (k .when) (k .gives) (firstOf l) (leb-true (k .gives) 10 (and-l (leb (k .gives) 10) (low l) h))
-    (first-low l (and-r (leb (k .gives) 10) (low l) h))
-
-or-none : (a b : Bool) → (a || b) ≡ false → b ≡ false
-or-none true b e = no (sym e)
-or-none false b e = e
+    pick-elim (λ m. m ≤ 10) (k .when) (k .gives) (firstOf l) (λ _. leb-true (k .gives) 10 (and-l (leb (k .gives) 10) (low l) h))
+    (λ _. first-low l (and-r (leb (k .gives) 10) (low l) h))
 
 module _ (s : State) (r : List ℕ) where
   -- ---- what is claimed of an outcome
@@ -127,9 +121,7 @@ module _ (s : State) (r : List ℕ) where
 
   fine-settle : (o : Outcome State) → Good o → Fine (settle s (issuer r) o)
   fine-settle o g =
-      pick-elim Fine (eqb (o .condition) normal || eqb (issuer r) (blank 8)) (settled o (issuer r) Ignore)
-      (settled o (issuer r) (decides (s .tasks) (issuer r) (o .condition)))
-      (λ _. fine-settled o g Ignore) (λ _. fine-settled o g (decides (s .tasks) (issuer r) (o .condition)))
+      settle-is Fine s (issuer r) o (fine-settled o g Ignore) (fine-settled o g (decides (s .tasks) (issuer r) (o .condition)))
 
 -- ---- an abend: the action of an unset setting alone
 
@@ -142,7 +134,7 @@ settle-abend : (s : State) (n : ℕ) (o : Outcome State) → settle s n o .answe
 settle-abend s n o h =
     byTest (eqb (o .condition) normal || eqb n (blank 8))
     (λ t. let z : _≡_ {A = ℕ} 0 2 = rw t at h in absurd (omega arith))
-    (λ t. (or-none (eqb (o .condition) normal) (eqb n (blank 8)) t, rw t (settled-abend o n (decides (s .tasks) n (o .condition)) (rw t at h))))
+    (λ t. (or-false-r (eqb (o .condition) normal) (eqb n (blank 8)) t, rw t (settled-abend o n (decides (s .tasks) n (o .condition)) (rw t at h))))
 
 -- ---- the rows
 

@@ -1,22 +1,22 @@
 -- The model's own run meets the demands on a list entry. Assumes nothing.
-use Prim.Native.Nat.{ℕ, suc, zero, _+_, _*_, _-_, _/_, _%_, _^_, _<_, _≤_}
-use native.Mathlib.Nat.{add-mul-mod-self-right, div-add-mod', mod-eq-of-lt}
+use Prim.Native.Nat.{ℕ, suc, zero, _+_, _*_, _/_, _%_, _^_, _<_, _≤_}
+use native.Mathlib.Nat.{add-mul-mod-self-right, div-add-mod'}
 use native.Mathlib.Omega.{arith}
 use mathlib.Core.Path.{_≡_, refl, ap, sym, _∙_}
-use mathlib.Core.Bool.{Bool, true, false}
+use mathlib.Core.Bool.{Bool, true}
 use mathlib.Core.List.{List, [], _∷_}
 use lib.ListN.{length, take, drop}
-use lib.Dec.{leb, eqb}
+use lib.Dec.{eqb}
 use borrow.Author.Tests.{le-leb, lt-leb}
 use Rattle.base.specs.Choice.{pick}
 use Rattle.base.specs.Bytes.{num, isBytes}
-use Rattle.base.specs.Laws.Tests.{byTest}
+use Rattle.base.specs.Laws.Tests.{pick-elim}
 use Rattle.base.specs.Laws.Bytes.{num-bound}
 use Rattle.model.specs.Limits.{Limits}
 use Rattle.model.specs.State.{State, emptyAt}
 use Rattle.model.specs.Commands.{step}
-use Rattle.model.specs.Lists.{Framed, bad, good, behind, whole, records, headed, framed, answersFrom, Ran, refusal, answered, ran, run}
-use Rattle.model.specs.Demands.{ListDemands, retick, reticked}
+use Rattle.model.specs.Lists.{Framed, bad, good, behind, whole, records, headed, framed, answersFrom, refusal, answered, ran, run}
+use Rattle.model.specs.Demands.{ListDemands}
 use Rattle.model.specs.Laws.Shift.{shift, state-shift, answer-same}
 use Rattle.model.specs.Laws.Moved.{from-two, round}
 
@@ -32,8 +32,7 @@ behind-value v r bad e = e
 behind-value v r (good w rs) e = e
 
 pick-value : (v : ℕ) (b : Bool) (x y : Framed) → valueOf v x ≡ v → valueOf v y ≡ v → valueOf v (pick b x y) ≡ v
-pick-value v true x y e f = e
-pick-value v false x y e f = f
+pick-value v b x y e f = pick-elim (λ (z : Framed). valueOf v z ≡ v) b x y (λ _. e) (λ _. f)
 
 records-value : (v f : ℕ) (l : List ℕ) → valueOf v (records v f l) ≡ v
 unfolding valueOf
@@ -58,7 +57,7 @@ module _ (L : Limits) where
   rounds-same n (r ∷ rs) s =
       let x : step L (shift (n * 2 ^ 32) s) r .answer ≡ step L s r .answer = answer-same (n * 2 ^ 32) L s r (add-mul-mod-self-right (s .interval .clock) n (2 ^ 32)) in
       let y : answersFrom L (step L (shift (n * 2 ^ 32) s) r .state) rs ≡ answersFrom L (step L s r .state) rs =
-        ap (λ (z : State). answersFrom L z rs) (state-shift (n * 2 ^ 32) L s r) ∙ rounds-same n rs (step L s r .state) in
+      ap (λ (z : State). answersFrom L z rs) (state-shift (n * 2 ^ 32) L s r) ∙ rounds-same n rs (step L s r .state) in
       cc
 
   pub any-clock : (v c : ℕ) → c % 2 ^ 32 ≡ v → (rs : List (List ℕ)) → answersFrom L (emptyAt c) rs ≡ answersFrom L (emptyAt v) rs
@@ -84,6 +83,6 @@ module _ (L : Limits) where
     short = λ l b v rs h e f. run-short l b v rs e f;
     runs = λ l b v c rs h e f g. run-whole l b v rs e f ∙ ap (λ x. answered x b) (sym (any-clock v c g rs));
     moved = λ l m b v w rs hl hm el em f.
-      run-whole m b w rs em f
-      ∙ ap (λ x. answered x b) (sym (any-clock w (w + 2 ^ 32) (round L w (value-fits m w rs hm em)) rs) ∙ from-two L v w (value-fits l v rs hl el) rs);
+        run-whole m b w rs em f
+        ∙ ap (λ x. answered x b) (sym (any-clock w (w + 2 ^ 32) (round L w (value-fits m w rs hm em)) rs) ∙ from-two L v w (value-fits l v rs hl el) rs);
   }

@@ -1,7 +1,7 @@
 -- Demand 3 follows from demand 2, for any monitor, by induction on the records. Assumes nothing.
 use Prim.Native.Nat.{ℕ}
 use mathlib.Core.Path.{_≡_, refl}
-use mathlib.Core.Bool.{Bool, true, false}
+use mathlib.Core.Bool.{true}
 use mathlib.Core.List.{List, [], _∷_}
 use Rattle.base.specs.Bytes.{isBytes}
 use Rattle.base.specs.Laws.Tests.{and-l, and-r}

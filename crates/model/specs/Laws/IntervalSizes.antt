@@ -22,8 +22,8 @@ module _ (L : Limits) (i : Interval) (s : soundInterval L i ≡ true) where
   first-size p =
       let b : List ℕ = first p noRequest (i .requests) .bytes in
       let h : isData L b ≡ true =
-          first-or p (λ (q : Request). isData L (q .bytes)) noRequest (i .requests) (and-i (le-leb 0 (L .item) (omega arith)) refl)
-          (all-imp (soundRequest L i) (λ (q : Request). isData L (q .bytes)) (λ q e. view-request L i q e .content) (i .requests) (view s .requests-sound)) in
+      first-or p (λ (q : Request). isData L (q .bytes)) noRequest (i .requests) (and-i (le-leb 0 (L .item) (omega arith)) refl)
+      (all-imp (soundRequest L i) (λ (q : Request). isData L (q .bytes)) (λ q e. view-request L i q e .content) (i .requests) (view s .requests .sound)) in
       (leb-true (length b) (L .item) (and-l (leb (length b) (L .item)) (isBytes b) h), and-r (leb (length b) (L .item)) (isBytes b) h)
 
   pub own-size : (n : ℕ) → (length (requestOf (i .requests) n .bytes) ≤ L .item) × (isBytes (requestOf (i .requests) n .bytes) ≡ true)
@@ -33,7 +33,7 @@ module _ (L : Limits) (i : Interval) (s : soundInterval L i ≡ true) where
   server-size t = first-size (serves t)
 
   pub requests-few : length (i .requests) ≤ L .requests
-  requests-few = view s .requests-fit
+  requests-few = view s .requests .fit
 
 module _ (i : Interval) where
   pub line-few : length (line i) ≤ length (i .requests)

@@ -3,19 +3,18 @@ use Prim.Native.Nat.{ℕ, _+_, _*_, _/_, _%_, _^_, _≤_, _<_}
 use native.Mathlib.Nat.{add-zero, add-mul-mod-self-right, div-add-mod'}
 use native.Mathlib.Omega.{arith}
 use mathlib.Core.Path.{_≡_, refl, ap, sym, _∙_, subst}
-use mathlib.Core.Bool.{Bool, true, false}
-use mathlib.Core.List.{List, [], _∷_, map}
-use Rattle.base.specs.Choice.{pick}
+use mathlib.Core.Bool.{true, false}
+use mathlib.Core.List.{List}
 use Rattle.base.specs.Bytes.{isBytes}
-use Rattle.base.specs.Laws.Tests.{byTest, no}
+use Rattle.base.specs.Laws.Tests.{byTest, is-false}
 use Rattle.base.specs.Laws.Maps.{map-id}
 use Rattle.model.specs.Limits.{Limits, Fit, cabinet}
-use Rattle.model.specs.Interval.{Phase, Waiting, Expired, Active, Request, Interval, inPhase, withClock, withRequests}
+use Rattle.model.specs.Interval.{Phase, Waiting, Expired, Active, Request, inPhase, withClock, withRequests}
 use Rattle.model.specs.State.{State, emptyAt, withInterval, sound}
-use Rattle.model.specs.Commands.{Answer, Turn, plain, formed, allowed, refused, step, stepAny}
+use Rattle.model.specs.Commands.{Answer, Turn, formed, allowed, refused, step, stepAny}
 use Rattle.model.specs.Demands.{Stepped, Monitor, Heard, Kept, Stepping, Proper, Space, Demand1, Demand2, Demand3}
 use Rattle.model.specs.Laws.Generic.{demand3}
-use Rattle.model.specs.Laws.Shift.{laterPhase, later, shiftInterval, shift, state-shift, answer-same, allowed-shift}
+use Rattle.model.specs.Laws.Shift.{laterPhase, later, shift, state-shift, answer-same, allowed-shift}
 use Rattle.model.specs.Laws.SoundShift.{sound-shift}
 use Rattle.model.specs.Laws.SoundStep.{empty-sound, step-sound}
 use Rattle.model.specs.Laws.Space.{space}
@@ -116,14 +115,11 @@ module _ (L : Limits) where
   any-proper fit t r b =
       byTest (sound L t) (λ h. rw (any-sound t r h) (step-proper L t r fit h b)) (λ h. rw (any-unsound t r h) (proper-plain 32 (omega arith) (omega arith)))
 
-  not-sound : (t : State) → (sound L t ≡ true → ⊥) → sound L t ≡ false
-  not-sound t h = byTest (sound L t) (λ e. absurd (h e)) (λ e. e)
-
   heard-small : (t s : State) (r : List ℕ) → Heard (itself L) t s r → stepAny L t r .answer .condition ≤ 10
   heard-small t s r h = rw (any-sound t r (h .soundly)) (fine-heard L t r (h .formed) (sym (same-allowed t s r (h .stands)) ∙ h .allowed) .small)
 
   heard-kept : (t s : State) (r : List ℕ) → Heard (itself L) t s r → (stepAny L t r .answer .condition ≡ 0 → ⊥)
-    → (s′ : State) × (Same (stepAny L t r .state) s′ × Kept s r (stepAny L t r .answer) s′)
+      → (s′ : State) × (Same (stepAny L t r .state) s′ × Kept s r (stepAny L t r .answer) s′)
   heard-kept t s r h ne =
       let p : Stepping L (itself L) t s r = steps-as t s r (h .bytes) (h .soundly) (h .stands) in
       let e : stepAny L t r .answer ≡ step L s r .answer = p .answer in
@@ -132,7 +128,7 @@ module _ (L : Limits) where
   pub meets-1 : Fit L → Demand1 (itself L)
   meets-1 fit = record {
     reply = any-proper fit;
-    unsound = λ t r b h. ap turned (any-unsound t r (not-sound t h));
+    unsound = λ t r b h. ap turned (any-unsound t r (is-false (sound L t) h));
     malformed = λ t r b so e. ap turned (any-sound t r so ∙ step-malformed L t r e);
     stranger = λ t s r b so a f w. ap turned (any-sound t r so ∙ step-stranger L t r f (sym (same-allowed t s r a) ∙ w));
     heard = heard-small;

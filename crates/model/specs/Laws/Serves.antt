@@ -1,29 +1,27 @@
 -- Freed room serves again, for any monitor that meets demand 2. Assumes nothing.
-use Prim.Native.Nat.{ℕ, suc, zero, _+_, _<_, _≤_}
+use Prim.Native.Nat.{ℕ, suc, zero, _<_, _≤_}
 use native.Mathlib.Omega.{arith}
 use mathlib.Core.Path.{_≡_, refl, ap, sym, _∙_, subst}
-use mathlib.Core.Logic.{_⊎_, inl, inr, ⊎-elim}
-use mathlib.Core.Bool.{Bool, true, false, not, _&&_, _||_}
-use mathlib.Core.List.{List, [], _∷_}
+use mathlib.Core.Logic.{⊎-elim}
+use mathlib.Core.Bool.{true, false, not, and-false}
+use mathlib.Core.List.{List}
 use lib.ListN.{length}
-use lib.Dec.{eqb, leb}
 use borrow.Author.Tests.{lt-leb, not-false, eq-eqb}
-use Rattle.base.specs.Choice.{pick}
-use Rattle.base.specs.Bytes.{blank, isBytes}
-use Rattle.base.specs.Laws.Tests.{no}
+use Rattle.base.specs.Bytes.{isBytes}
+use Rattle.base.specs.Laws.Tests.{no, or-false-l}
 use Rattle.model.specs.Limits.{Limits}
-use Rattle.model.specs.Plans.{normal, noSpace, Check, Outcome, Plan, firstOf, obey}
+use Rattle.model.specs.Plans.{normal, noSpace, Outcome, Plan, firstOf, obey}
 use Rattle.model.specs.Queues
 use Rattle.model.specs.Queues.{knownQueue, queueOf, itemsIn}
 use Rattle.model.specs.Interval
 use Rattle.model.specs.Handlers.{Ignore}
-use Rattle.model.specs.Interval.{Interval, activeTask, knownRequest, remove}
-use Rattle.model.specs.State.{State, withoutTask, sound}
-use Rattle.model.specs.Commands.{Answer, Turn, Row, asked, command, issuer, operand, wrongKind, rowOf, planOf, obeyPlan, obeyed, settled, settle, refused, formed, allowed, step}
+use Rattle.model.specs.Interval.{Interval, activeTask, knownRequest}
+use Rattle.model.specs.State.{State}
+use Rattle.model.specs.Commands.{Answer, Turn, Row, asked, command, issuer, operand, wrongKind, rowOf, planOf, obeyPlan, obeyed, settled, settle, formed, allowed, step}
 use Rattle.model.specs.Demands.{Monitor, Stepping, Demand2, Pair, Cramped, Serves, full}
-use Rattle.model.specs.Laws.Rows.{of-every}
-use Rattle.model.specs.Laws.PlanLaws.{clears, clear-head, or-false-l}
-use Rattle.model.specs.Laws.Conditions.{turn-is, step-heard, step-action, Abended, _▹_}
+use Rattle.model.specs.Laws.Rows.{_▹_, of-every}
+use Rattle.model.specs.Laws.PlanLaws.{clears, clear-head}
+use Rattle.model.specs.Laws.Conditions.{turn-is, step-heard, step-action, Abended}
 use Rattle.model.specs.Laws.Space.{space, settle-condition}
 use Rattle.model.specs.Laws.SoundQueues.{QueuesSound, view, delete-frees}
 use Rattle.model.specs.Laws.IntervalSizes.{requests-few, known-fewer, remove-fewer}
@@ -38,11 +36,7 @@ module _ (L : Limits) (s : State) (a : List ℕ) where
   not-full e c = no (sym e ∙ space L s a .only c)
 
   roomy-items : length (s .queues) < L .queues → itemsIn (s .queues) < L .slots → command a ≡ 10 → full L s a ≡ false
-  roomy-items q i e = rw e (rw (lt-leb (L .queues) (length (s .queues)) q, lt-leb (L .slots) (itemsIn (s .queues)) i) (neither (not (knownQueue (s .queues) (operand 0 8 a)))))
-    where
-      neither : (b : Bool) → (b && false || false) ≡ false
-      neither true = refl
-      neither false = refl
+  roomy-items q i e = rw e (rw (lt-leb (L .queues) (length (s .queues)) q, lt-leb (L .slots) (itemsIn (s .queues)) i, and-false (not (knownQueue (s .queues) (operand 0 8 a)))))
 
   roomy-requests : length (s .interval .requests) < L .requests → command a ≡ 6 → full L s a ≡ false
   roomy-requests h e = rw e (lt-leb (L .requests) (length (s .interval .requests)) h)
@@ -125,8 +119,9 @@ module _ (L : Limits) (s : State) (r : List ℕ) (v : StateSound L s) where
     where
       w : Row
       w = rowOf (command r)
+
       go : (n : ℕ) → firstOf (planOf (rowOf (command r)) L s r .checks) ≡ n → (obey s n (rowOf (command r) .plans L s r .effect) .condition ≡ 0 → ⊥)
-        → activeTask (obey s n (rowOf (command r) .plans L s r .effect) .state .interval) m ≡ true
+          → activeTask (obey s n (rowOf (command r) .plans L s r .effect) .state .interval) m ≡ true
       go zero e g = row-stays (command r) L s r v m a (clear-head (wrongKind (rowOf (command r) .who) (issuer r)) 9 (rowOf (command r) .plans L s r .checks) e .1) g
       go (suc c) e g = a
 
@@ -139,7 +134,7 @@ module _ (L : Limits) (s : State) (r : List ℕ) (v : StateSound L s) where
   -- ---- how much room each leaves
 
   pub after-delete : command r ≡ 14 → step L s r .answer .condition ≡ 0 → 1 ≤ step L s r .answer .number
-    → (length (step L s r .state .queues) < L .queues) × (itemsIn (step L s r .state .queues) < L .slots)
+      → (length (step L s r .state .queues) < L .queues) × (itemsIn (step L s r .state .queues) < L .slots)
   unfolding Queues.delete
   after-delete e c n =
       let N : Normal L s r 14 = step-normal L s r 14 e c in
@@ -204,10 +199,10 @@ pub serves : (L : Limits) (M : Monitor) → Demand2 L M → Serves M
 serves L M D = record {
   items = λ t r a p e c n f x. items-again L M D t r a p e c n f x;
   requests = λ t r a p e c f x.
-    requests-again L M D t r a p
-    (⊎-elim (λ g. after-cancel L (s L M D t r a p) r (here L M D t r a p) g (condition-is L M D t r a p c))
-    (λ g. after-finish L (s L M D t r a p) r (here L M D t r a p) g (condition-is L M D t r a p c)) e) f x;
+      requests-again L M D t r a p
+      (⊎-elim (λ g. after-cancel L (s L M D t r a p) r (here L M D t r a p) g (condition-is L M D t r a p c))
+      (λ g. after-finish L (s L M D t r a p) r (here L M D t r a p) g (condition-is L M D t r a p c)) e) f x;
   abend = λ t r a p h f x.
-    requests-again L M D t r a p
-    (after-abend L (s L M D t r a p) r (here L M D t r a p) (p .first) (sym (ap (λ (y : Answer). y .action) (one L M D t r a p .answer)) ∙ h)) f x;
+      requests-again L M D t r a p
+      (after-abend L (s L M D t r a p) r (here L M D t r a p) (p .first) (sym (ap (λ (y : Answer). y .action) (one L M D t r a p .answer)) ∙ h)) f x;
 }

@@ -1,13 +1,13 @@
 -- The model does the same whatever its clock shows: tables moved on by k ticks, clock and due ticks alike, answer as before but for
 -- the tick answer, and come to tables moved on by k. Assumes nothing.
-use Prim.Native.Nat.{ℕ, suc, zero, _+_, _*_, _-_, _%_, _^_, _<_, _≤_}
+use Prim.Native.Nat.{ℕ, suc, zero, _+_, _%_, _^_}
 use native.Mathlib.Nat.{mod-add-mod}
 use native.Mathlib.Omega.{arith}
 use mathlib.Core.Path.{_≡_, refl, ap, sym, _∙_}
 use mathlib.Core.Bool.{Bool, true, false, not, _&&_, _||_}
-use mathlib.Core.List.{List, [], _∷_, _++_, map, map-append}
+use mathlib.Core.List.{List, [], _∷_, map, map-append}
 use lib.ListN.{length, length-map}
-use lib.Dec.{leb, ltb, eqb}
+use lib.Dec.{leb, eqb}
 use borrow.Author.Tests.{eqb-true, eqb-false}
 use Rattle.base.specs.Choice.{pick}
 use Rattle.base.specs.Lists.{keep, any, first, firstAt}
@@ -18,13 +18,13 @@ use Rattle.base.specs.Laws.Maps.{any-map, keep-map, first-map, firstAt-map, map
 use Rattle.model.specs.Limits.{Limits}
 use Rattle.model.specs.Plans.{normal, Outcome, Plan, plan, done, cut, firstOf, obey, outcomeIn, planIn}
 use Rattle.model.specs.Interval
-use Rattle.model.specs.Interval.{Phase, Waiting, Expired, Active, Request, Interval, Asked, inPhase, withRequests, isActive, isExpired, notTaken, isDue, noLater, active, expired, noRequest, knownRequest, requestOf, activeTask, atRequest, dropRequest, remove, newly, lapse, line, startable, started, noneStartable, begun, hasOwn, serves, server, tookOwn, retrieval}
+use Rattle.model.specs.Interval.{Phase, Waiting, Expired, Active, Request, Interval, Asked, inPhase, withRequests, isActive, isExpired, notTaken, isDue, noLater, active, expired, noRequest, knownRequest, requestOf, activeTask, atRequest, remove, newly, lapse, line, startable, started, noneStartable, begun, hasOwn, serves, server, tookOwn, retrieval}
 use Rattle.model.specs.Handlers.{Setting, Unset, Ignore, Label, decides}
 use Rattle.model.specs.State.{State, withInterval, withoutTask}
 use Rattle.model.specs.Commands
-use Rattle.model.specs.Commands.{Answer, Turn, Row, command, issuer, operand, rowOf, planOf, obeyPlan, obeyed, says, settled, settle, plain, refused, formed, allowed, step}
+use Rattle.model.specs.Commands.{Answer, Turn, Row, command, issuer, operand, rowOf, planOf, obeyPlan, obeyed, says, settled, settle, refused, formed, allowed, step}
 use Rattle.model.specs.Demands.{retick}
-use Rattle.model.specs.Laws.Rows.{of-every}
+use Rattle.model.specs.Laws.Rows.{_▹_, of-every}
 
 -- ---- moved on by k ticks
 
@@ -48,20 +48,20 @@ shiftTurn k x = record { answer = x .answer; state = shift k (x .state) }
 module _ (k : ℕ) where
   -- ---- phases
 
+  -- a test that does not see the due tick
+  blind-later : (f : Phase → Bool) → ((d : ℕ) → f (Waiting (d + k)) ≡ f (Waiting d)) → (p : Phase) → f (laterPhase k p) ≡ f p
+  blind-later f h (Waiting d) = h d
+  blind-later f h Expired = refl
+  blind-later f h (Active t) = refl
+
   pub active-later : (p : Phase) → isActive (laterPhase k p) ≡ isActive p
-  active-later (Waiting d) = refl
-  active-later Expired = refl
-  active-later (Active t) = refl
+  active-later = blind-later isActive (λ d. refl)
 
   expired-later : (p : Phase) → isExpired (laterPhase k p) ≡ isExpired p
-  expired-later (Waiting d) = refl
-  expired-later Expired = refl
-  expired-later (Active t) = refl
+  expired-later = blind-later isExpired (λ d. refl)
 
   taken-later : (p : Phase) → notTaken (laterPhase k p) ≡ notTaken p
-  taken-later (Waiting d) = refl
-  taken-later Expired = refl
-  taken-later (Active t) = refl
+  taken-later = blind-later notTaken (λ d. refl)
 
   due-later : (c : ℕ) (p : Phase) → isDue (c + k) (laterPhase k p) ≡ isDue c p
   due-later c (Waiting d) = leb-add k d c
@@ -83,8 +83,15 @@ module _ (k : ℕ) where
     known-shift : (n : ℕ) → knownRequest (map (later k) (i .requests)) n ≡ knownRequest (i .requests) n
     known-shift n = any-map (later k) (λ (q : Request). eqb (q .name) n) (λ (q : Request). eqb (q .name) n) (λ q. refl) (i .requests)
 
+    -- the active tasks, by a number that is not their due tick
+    active-shift : (f : Request → ℕ) → ((q : Request) → f (later k q) ≡ f q) → (n : ℕ)
+        → any (λ (q : Request). active q && eqb (f q) n) (map (later k) (i .requests)) ≡ any (λ (q : Request). active q && eqb (f q) n) (i .requests)
+    active-shift f same n =
+        any-map (later k) (λ (q : Request). active q && eqb (f q) n) (λ (q : Request). active q && eqb (f q) n)
+        (λ q. rw (active-later (q .phase), same q)) (i .requests)
+
     pub task-shift : (n : ℕ) → activeTask j n ≡ activeTask i n
-    task-shift n = any-map (later k) (λ (q : Request). active q && eqb (q .name) n) (λ (q : Request). active q && eqb (q .name) n) (λ q. ap (λ (b : Bool). b && eqb (q .name) n) (active-later (q .phase))) (i .requests)
+    task-shift = active-shift (λ (q : Request). q .name) (λ q. refl)
 
     pub remove-shift : (n : ℕ) → remove j n ≡ shiftInterval k (remove i n)
     remove-shift n = ap (withRequests j) (keep-map (later k) (λ (q : Request). not (eqb (q .name) n)) (λ (q : Request). not (eqb (q .name) n)) (λ q. refl) (i .requests))
@@ -104,7 +111,7 @@ module _ (k : ℕ) where
 
     -- a choice between two outcomes that are moved on
     choice-shift : (b b′ : Bool) (x x′ y y′ : Outcome Interval) → b′ ≡ b → x′ ≡ outcomeIn (shiftInterval k) x → y′ ≡ outcomeIn (shiftInterval k) y
-      → pick b′ x′ y′ ≡ outcomeIn (shiftInterval k) (pick b x y)
+        → pick b′ x′ y′ ≡ outcomeIn (shiftInterval k) (pick b x y)
     choice-shift b b′ x x′ y y′ e f g = rw (e, f, g) (sym (pick-map (outcomeIn (shiftInterval k)) b x y))
 
     -- ---- the commands of interval control
@@ -130,9 +137,13 @@ module _ (k : ℕ) where
       lapse-shift : (c : ℕ) → lapse (c + k) (map (later k) (i .requests)) ≡ map (later k) (lapse c (i .requests))
       lapse-shift c =
           let le : Request → Request → Bool = λ q p. noLater (q .phase) (p .phase) in
-          rw (stay-shift c, newly-shift c, sort-map (later k) (λ (q p : Request). noLater (q .phase) (p .phase)) (λ (q p : Request). noLater (q .phase) (p .phase)) (λ q p. order-later (q .phase) (p .phase)) (newly c (i .requests)),
-          map-swap (later k) (inPhase Expired) (inPhase Expired) (λ q. refl) (sort (λ (q p : Request). noLater (q .phase) (p .phase)) (newly c (i .requests))))
-          (sym (map-append (later k) (keep (λ (q : Request). not (isDue c (q .phase))) (i .requests)) (map (inPhase Expired) (sort (λ (q p : Request). noLater (q .phase) (p .phase)) (newly c (i .requests))))))
+          rw (
+            stay-shift c,
+            newly-shift c,
+            sort-map (later k) le le (λ q p. order-later (q .phase) (p .phase)) (newly c (i .requests)),
+            map-swap (later k) (inPhase Expired) (inPhase Expired) (λ q. refl) (sort le (newly c (i .requests))),
+          )
+          (sym (map-append (later k) (keep (λ (q : Request). not (isDue c (q .phase))) (i .requests)) (map (inPhase Expired) (sort le (newly c (i .requests))))))
 
       over : (n : ℕ) → i .clock + k + n ≡ i .clock + n + k
       over n = omega arith
@@ -150,14 +161,9 @@ module _ (k : ℕ) where
       start-shift a = rw (known-shift (a .name), length-map (i .requests) (later k), begun-shift (a .interval), map-append (later k) (i .requests) (Interval.accepted (i .clock) a ∷ []))
 
       -- dispatch
-      busy-shift : (n : ℕ) → any (λ (a : Request). active a && eqb (a .terminal) n) (map (later k) (i .requests)) ≡ any (λ (a : Request). active a && eqb (a .terminal) n) (i .requests)
-      busy-shift n = any-map (later k) (λ (a : Request). active a && eqb (a .terminal) n) (λ (a : Request). active a && eqb (a .terminal) n) (λ q. ap (λ (b : Bool). b && eqb (q .terminal) n) (active-later (q .phase))) (i .requests)
-
-      runs-shift : (n : ℕ) → any (λ (a : Request). active a && eqb (a .program) n) (map (later k) (i .requests)) ≡ any (λ (a : Request). active a && eqb (a .program) n) (i .requests)
-      runs-shift n = any-map (later k) (λ (a : Request). active a && eqb (a .program) n) (λ (a : Request). active a && eqb (a .program) n) (λ q. ap (λ (b : Bool). b && eqb (q .program) n) (active-later (q .phase))) (i .requests)
-
       startable-shift : (q : Request) → startable j (later k q) ≡ startable i q
-      startable-shift q = rw (busy-shift (q .terminal), runs-shift (q .program))
+      startable-shift q =
+          rw (active-shift (λ (a : Request). a .terminal) (λ a. refl) (q .terminal), active-shift (λ (a : Request). a .program) (λ a. refl) (q .program))
 
       any-startable : any (startable j) (line j) ≡ any (startable i) (line i)
       any-startable = rw line-shift (any-map (later k) (startable i) (startable j) startable-shift (line i))
@@ -230,17 +236,24 @@ module _ (k : ℕ) where
   unfolding Shifts
   row-shift =
       of-every Shifts (λ n _ L s r. refl)
-      ((λ _ L s r. ap (into s) (program-shift (s .interval) L (operand 0 4 r))),
-      ((λ _ L s r. ap (into s) (terminal-shift (s .interval) L (operand 0 4 r))),
-      ((λ _ L s r. ap (into s) (advance-shift (s .interval) L (operand 0 4 r))),
-      ((λ h. absurd (h refl)),
-      ((λ _ L s r. ap (into s) (dispatch-shift (s .interval) L)),
-      ((λ _ L s r. ap (into s) (start-shift (s .interval) L (Commands.asked r))),
-      ((λ _ L s r. ap (into s) (cancel-shift (s .interval) L (operand 0 8 r))),
-      ((λ _ L s r. ap (into s) (retrieve-shift (s .interval) L (issuer r) (operand 0 1 r))),
-      ((λ _ L s r. rw (without-shift s (issuer r))),
-      ((λ _ L s r. refl), ((λ _ L s r. refl), ((λ _ L s r. refl), ((λ _ L s r. refl), ((λ _ L s r. refl),
-      ((λ _ L s r. refl), ((λ _ L s r. refl), ((λ _ L s r. refl), tt)))))))))))))))))
+      ((λ _ L s r. ap (into s) (program-shift (s .interval) L (operand 0 4 r)))
+      ▹ (λ _ L s r. ap (into s) (terminal-shift (s .interval) L (operand 0 4 r)))
+      ▹ (λ _ L s r. ap (into s) (advance-shift (s .interval) L (operand 0 4 r)))
+      ▹ (λ h. absurd (h refl))
+      ▹ (λ _ L s r. ap (into s) (dispatch-shift (s .interval) L))
+      ▹ (λ _ L s r. ap (into s) (start-shift (s .interval) L (Commands.asked r)))
+      ▹ (λ _ L s r. ap (into s) (cancel-shift (s .interval) L (operand 0 8 r)))
+      ▹ (λ _ L s r. ap (into s) (retrieve-shift (s .interval) L (issuer r) (operand 0 1 r)))
+      ▹ (λ _ L s r. rw (without-shift s (issuer r)))
+      ▹ (λ _ L s r. refl)
+      ▹ (λ _ L s r. refl)
+      ▹ (λ _ L s r. refl)
+      ▹ (λ _ L s r. refl)
+      ▹ (λ _ L s r. refl)
+      ▹ (λ _ L s r. refl)
+      ▹ (λ _ L s r. refl)
+      ▹ (λ _ L s r. refl)
+      ▹ tt)
 
   -- ---- one record
   module _ (L : Limits) (s : State) (r : List ℕ) where
@@ -309,7 +322,7 @@ module _ (k : ℕ) (L : Limits) (s : State) (r : List ℕ) where
   state-shift =
       byTest (eqb (command r) 4)
       (λ t. let e : command r ≡ 4 = eqb-true (command r) 4 t in
-        ap (λ (x : Turn). x .state) (ask-moved e) ∙ say-state (formed r) (allowed s r) ((s .interval .clock + k) % 2 ^ 32) (s .interval .clock % 2 ^ 32) ∙ ap (λ (x : Turn). shift k (x .state)) (sym (ask-step L s r e)))
+      ap (λ (x : Turn). x .state) (ask-moved e) ∙ say-state (formed r) (allowed s r) ((s .interval .clock + k) % 2 ^ 32) (s .interval .clock % 2 ^ 32) ∙ ap (λ (x : Turn). shift k (x .state)) (sym (ask-step L s r e)))
       (λ t. ap (λ (x : Turn). x .state) (step-shift k L s r (eqb-false (command r) 4 t)))
 
   say-moved : (b c : Bool) → eqb (command r) 4 ≡ true → say (shift k s) ((s .interval .clock + k) % 2 ^ 32) b c .answer ≡ retick k r (say s (s .interval .clock % 2 ^ 32) b c .answer)
@@ -325,7 +338,7 @@ module _ (k : ℕ) (L : Limits) (s : State) (r : List ℕ) where
   answer-shift =
       byTest (eqb (command r) 4)
       (λ t. let e : command r ≡ 4 = eqb-true (command r) 4 t in
-        ap (λ (x : Turn). x .answer) (ask-moved e) ∙ say-moved (formed r) (allowed s r) t ∙ ap (λ (x : Turn). retick k r (x .answer)) (sym (ask-step L s r e)))
+      ap (λ (x : Turn). x .answer) (ask-moved e) ∙ say-moved (formed r) (allowed s r) t ∙ ap (λ (x : Turn). retick k r (x .answer)) (sym (ask-step L s r e)))
       (λ t. ap (λ (x : Turn). x .answer) (step-shift k L s r (eqb-false (command r) 4 t)) ∙ not-moved (step L s r .answer) t)
 
   say-same : (b c : Bool) (n : ℕ) → say (shift k s) n b c .answer ≡ say s n b c .answer
@@ -338,6 +351,6 @@ module _ (k : ℕ) (L : Limits) (s : State) (r : List ℕ) where
   answer-same w =
       byTest (eqb (command r) 4)
       (λ t. let e : command r ≡ 4 = eqb-true (command r) 4 t in
-        ap (λ (x : Turn). x .answer) (ask-moved e) ∙ ap (λ (n : ℕ). say (shift k s) n (formed r) (allowed s r) .answer) w
-        ∙ say-same (formed r) (allowed s r) (s .interval .clock % 2 ^ 32) ∙ ap (λ (x : Turn). x .answer) (sym (ask-step L s r e)))
+      ap (λ (x : Turn). x .answer) (ask-moved e) ∙ ap (λ (n : ℕ). say (shift k s) n (formed r) (allowed s r) .answer) w
+      ∙ say-same (formed r) (allowed s r) (s .interval .clock % 2 ^ 32) ∙ ap (λ (x : Turn). x .answer) (sym (ask-step L s r e)))
       (λ t. ap (λ (x : Turn). x .answer) (step-shift k L s r (eqb-false (command r) 4 t)))

@@ -4,7 +4,7 @@
 use Prim.Native.Nat.{ℕ, _+_, _<_, _≤_}
 use mathlib.Core.Path.{_≡_, refl, _∙_}
 use mathlib.Core.Bool.{Bool, true, false, not}
-use mathlib.Core.List.{List, [], _∷_, map, append-nil}
+use mathlib.Core.List.{List, map, append-nil}
 use native.Mathlib.Omega.{arith}
 use lib.ListN.{length, length-append, length-map}
 use lib.Dec.{leb, ltb}
@@ -13,21 +13,13 @@ use Rattle.base.specs.Lists.{keep, all, copies, once}
 use Rattle.base.specs.Sort.{sort}
 use Rattle.base.specs.Laws.Tests.{and-r, and-i}
 use Rattle.base.specs.Laws.Keep.{keep-append, all-append, all-keep, all-keep-imp, keep-comm, length-split}
-use Rattle.base.specs.Laws.Maps.{map-append, map-map}
+use Rattle.base.specs.Laws.Maps.{map-append, map-map, all-map-imp, keep-map-none}
 use Rattle.base.specs.Laws.Counting.{copies-append, copies-split, copies-once, once-copies, once-keep}
 use Rattle.base.specs.Laws.Sorting.{length-sort, all-sort, copies-sort}
 use Rattle.model.specs.Limits.{Limits}
 use Rattle.model.specs.Plans.{firstOf}
 use Rattle.model.specs.Interval.{Phase, Waiting, Expired, Active, Request, Interval, withClock, inPhase, isDue, noLater, active, newly, lapse, advance, soundPhase, soundRequest, soundInterval}
-use Rattle.model.specs.Laws.PlanLaws.{all-map-imp}
 use Rattle.model.specs.Laws.SoundInterval.{view, view-request, in-phase, put-requests, nameOf, programOf, terminalOf, holder}
-
--- ---- list laws
-
--- what the map makes does not pass
-keep-map-none : {A B : Type 0} (g : A → B) (r : B → Bool) → ((x : A) → r (g x) ≡ false) → (l : List A) → keep r (map g l) ≡ []
-keep-map-none g r h [] = refl
-keep-map-none g r h (x ∷ l) = rw (h x) (keep-map-none g r h l)
 
 -- ---- the lapsed list, of any clock
 
@@ -54,10 +46,12 @@ module _ (c : ℕ) (l : List Request) where
   -- the names are a rearrangement
   lapse-copies : (n : ℕ) → copies n (map nameOf (lapse c l)) ≡ copies n (map nameOf l)
   lapse-copies n =
-      rw (map-append nameOf (keep (stays c) l) fallen
-      , map-map nameOf (inPhase Expired) (sort sooner (newly c l))
-      , copies-append n (map nameOf (keep (stays c) l)) (map nameOf (sort sooner (newly c l)))
-      , copies-sort sooner nameOf n (newly c l))
+      rw (
+        map-append nameOf (keep (stays c) l) fallen,
+        map-map nameOf (inPhase Expired) (sort sooner (newly c l)),
+        copies-append n (map nameOf (keep (stays c) l)) (map nameOf (sort sooner (newly c l))),
+        copies-sort sooner nameOf n (newly c l),
+      )
       (omega (arith, copies-split nameOf (due c) l n))
 
   lapse-once : once (map nameOf l) ≡ true → once (map nameOf (lapse c l)) ≡ true
@@ -95,21 +89,21 @@ module _ (L : Limits) (i : Interval) (c : ℕ) (later : i .clock ≤ c) where
       rw (all-append (soundRequest L (withClock i c)) (keep (stays c) l) (fallen c l))
       (and-i
       (all-keep-imp (soundRequest L i) (stays c) (soundRequest L (withClock i c)) waits-on l h)
-      (all-map-imp (soundRequest L i) (soundRequest L (withClock i c)) (inPhase Expired) expires (sort sooner (newly c l))
+      (all-map-imp (inPhase Expired) (soundRequest L i) (soundRequest L (withClock i c)) expires (sort sooner (newly c l))
       (rw (all-sort sooner (soundRequest L i) (newly c l)) (all-keep (soundRequest L i) (due c) l h))))
 
 pub advance-sound : (L : Limits) (i : Interval) → soundInterval L i ≡ true → (ticks : ℕ) → firstOf (advance L i ticks .checks) ≡ 0
     → soundInterval L (advance L i ticks .effect .state) ≡ true
 unfolding advance
 advance-sound L i s ticks e =
-    let v = view s in
+    let v = view s .requests in
     let c : ℕ = i .clock + ticks in
     let l : List Request = i .requests in
     put-requests L i c (lapse c l) s
     (record {
-      fit = rw (lapse-length c l) (v .requests-fit);
-      unique = lapse-once c l (v .requests-once);
-      sound = lapse-sound L i c (omega arith) l (v .requests-sound);
-      runs = lapse-keep-once c l programOf active (λ q. refl) (v .running-once);
-      holds = lapse-keep-once c l terminalOf holder (λ q. refl) (v .held-once);
+      fit = rw (lapse-length c l) (v .fit);
+      unique = lapse-once c l (v .unique);
+      sound = lapse-sound L i c (omega arith) l (v .sound);
+      runs = lapse-keep-once c l programOf active (λ q. refl) (v .runs);
+      holds = lapse-keep-once c l terminalOf holder (λ q. refl) (v .holds);
     })

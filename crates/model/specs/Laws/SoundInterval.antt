@@ -11,9 +11,9 @@ use lib.Dec.{eqb}
 use borrow.Author.Tests.{leb-true, leb-false, le-leb, lt-ltb}
 use Rattle.base.specs.Lists.{keep, all, has, once}
 use Rattle.base.specs.Bytes.{blank, isName}
-use Rattle.base.specs.Laws.Tests.{and-l, and-r, and-i, or-l, or-r, or-elim}
-use Rattle.base.specs.Laws.Keep.{all-append, all-imp, all-keep, length-keep, keep-comm}
-use Rattle.base.specs.Laws.Counting.{has-append, once-snoc, once-keep}
+use Rattle.base.specs.Laws.Tests.{both, and-i, or-l, or-r, or-elim}
+use Rattle.base.specs.Laws.Keep.{all-append, all-imp, all-keep, length-keep}
+use Rattle.base.specs.Laws.Counting.{has-more, once-snoc, once-keep, fewer-once}
 use Rattle.model.specs.Limits.{Limits, isData}
 use Rattle.model.specs.Plans.{firstOf}
 use Rattle.model.specs.Interval.{Phase, Request, Interval, idleAt, withPrograms, withTerminals, withRequests, withClock, inPhase, active, remove, define, defineProgram, defineTerminal, askTicks, cancel, noneOrKnown, soundPhase, soundRequest, running, held, soundInterval}
@@ -34,18 +34,23 @@ terminalOf q = q .terminal
 abbrev pub holder : Request → Bool
 holder q = active q && not (eqb (q .terminal) (blank 4))
 
+-- the known programs, or terminals
+pub record NamesSound (most : ℕ) (l : List ℕ) : Type 0 where
+  pub fit : length l ≤ most
+  pub unique : once l ≡ true
+  pub named : all (isName 4) l ≡ true
+
+pub record RequestsSound (L : Limits) (i : Interval) (l : List Request) : Type 0 where
+  pub fit : length l ≤ L .requests
+  pub unique : once (map nameOf l) ≡ true
+  pub sound : all (soundRequest L i) l ≡ true
+  pub runs : once (running l) ≡ true
+  pub holds : once (held l) ≡ true
+
 pub record IntervalSound (L : Limits) (i : Interval) : Type 0 where
-  pub programs-fit : length (i .programs) ≤ L .programs
-  pub programs-once : once (i .programs) ≡ true
-  pub programs-named : all (isName 4) (i .programs) ≡ true
-  pub terminals-fit : length (i .terminals) ≤ L .terminals
-  pub terminals-once : once (i .terminals) ≡ true
-  pub terminals-named : all (isName 4) (i .terminals) ≡ true
-  pub requests-fit : length (i .requests) ≤ L .requests
-  pub requests-once : once (map nameOf (i .requests)) ≡ true
-  pub requests-sound : all (soundRequest L i) (i .requests) ≡ true
-  pub running-once : once (running (i .requests)) ≡ true
-  pub held-once : once (held (i .requests)) ≡ true
+  pub programs : NamesSound (L .programs) (i .programs)
+  pub terminals : NamesSound (L .terminals) (i .terminals)
+  pub requests : RequestsSound L i (i .requests)
 
 pub record RequestSound (L : Limits) (i : Interval) (q : Request) : Type 0 where
   pub named : isName 8 (q .name) ≡ true
@@ -53,9 +58,6 @@ pub record RequestSound (L : Limits) (i : Interval) (q : Request) : Type 0 where
   pub terminal : noneOrKnown (q .terminal) (i .terminals) ≡ true
   pub content : isData L (q .bytes) ≡ true
   pub phase : soundPhase L (i .clock) (q .bytes) (q .phase) ≡ true
-
-both : (a b : Bool) → (a && b) ≡ true → (a ≡ true) × (b ≡ true)
-both a b e = (and-l a b e, and-r a b e)
 
 module _ {L : Limits} {i : Interval} where
   pub view : soundInterval L i ≡ true → IntervalSound L i
@@ -72,27 +74,21 @@ module _ {L : Limits} {i : Interval} where
       let p3 = both _ _ (p4 .0) in
       let p2 = both _ _ (p3 .0) in
       record {
-        programs-fit = leb-true _ _ (p2 .0);
-        programs-once = p2 .1;
-        programs-named = p3 .1;
-        terminals-fit = leb-true _ _ (p4 .1);
-        terminals-once = p5 .1;
-        terminals-named = p6 .1;
-        requests-fit = leb-true _ _ (p7 .1);
-        requests-once = p8 .1;
-        requests-sound = p9 .1;
-        running-once = p10 .1;
-        held-once = p11 .1;
+        programs = record { fit = leb-true _ _ (p2 .0); unique = p2 .1; named = p3 .1 };
+        terminals = record { fit = leb-true _ _ (p4 .1); unique = p5 .1; named = p6 .1 };
+        requests = record { fit = leb-true _ _ (p7 .1); unique = p8 .1; sound = p9 .1; runs = p10 .1; holds = p11 .1 };
       }
 
   pub unview : IntervalSound L i → soundInterval L i ≡ true
   unfolding soundInterval
   unview v =
+      let p = v .programs in
+      let t = v .terminals in
+      let r = v .requests in
       and-i (and-i (and-i (and-i (and-i (and-i (and-i (and-i (and-i (and-i
-      (le-leb _ _ (v .programs-fit)) (v .programs-once)) (v .programs-named))
-      (le-leb _ _ (v .terminals-fit))) (v .terminals-once)) (v .terminals-named))
-      (le-leb _ _ (v .requests-fit))) (v .requests-once)) (v .requests-sound))
-      (v .running-once)) (v .held-once)
+      (le-leb _ _ (p .fit)) (p .unique)) (p .named))
+      (le-leb _ _ (t .fit))) (t .unique)) (t .named))
+      (le-leb _ _ (r .fit))) (r .unique)) (r .sound)) (r .runs)) (r .holds)
 
 pub view-request : (L : Limits) (i : Interval) (q : Request) → soundRequest L i q ≡ true → RequestSound L i q
 view-request L i q h =
@@ -115,17 +111,9 @@ pub idle-sound : (L : Limits) (c : ℕ) → soundInterval L (idleAt c) ≡ true
 idle-sound L c =
     unview
     (record {
-      programs-fit = omega arith;
-      programs-once = refl;
-      programs-named = refl;
-      terminals-fit = omega arith;
-      terminals-once = refl;
-      terminals-named = refl;
-      requests-fit = omega arith;
-      requests-once = refl;
-      requests-sound = refl;
-      running-once = refl;
-      held-once = refl;
+      programs = record { fit = omega arith; unique = refl; named = refl };
+      terminals = record { fit = omega arith; unique = refl; named = refl };
+      requests = record { fit = omega arith; unique = refl; sound = refl; runs = refl; holds = refl };
     })
 
 pub ask-sound : (L : Limits) (i : Interval) → soundInterval L i ≡ true → firstOf (askTicks i .checks) ≡ 0
@@ -135,137 +123,84 @@ ask-sound L i s e = s
 
 -- ---- a new name
 
-record Grown (most : ℕ) (l : List ℕ) : Type 0 where
-  fit : length l ≤ most
-  unique : once l ≡ true
-  named : all (isName 4) l ≡ true
-
 -- the list that a definition makes
-grown : (most : ℕ) (known : List ℕ) (n : ℕ) (put : List ℕ → Interval) → n < 256 ^ 4 → once known ≡ true → all (isName 4) known ≡ true
-    → firstOf (define most known n put .checks) ≡ 0 → Grown most (known ++ (n ∷ []))
-grown most known n put small o a e =
+grown : (most : ℕ) (known : List ℕ) (n : ℕ) (put : List ℕ → Interval) → n < 256 ^ 4 → NamesSound most known
+    → firstOf (define most known n put .checks) ≡ 0 → NamesSound most (known ++ (n ∷ []))
+grown most known n put small v e =
     let c = clears (define most known n put .checks) refl e in
     let room : length known < most = leb-false most (length known) (c .1 .1 .0) in
     record {
       fit = simp length-append (omega arith);
-      unique = once-snoc n known (c .1 .0) o;
-      named = rw (all-append (isName 4) known (n ∷ []), a) (and-i (and-i (lt-ltb n (256 ^ 4) small) (ap not (c .0))) refl);
+      unique = once-snoc n known (c .1 .0) (v .unique);
+      named = rw (all-append (isName 4) known (n ∷ []), v .named) (and-i (and-i (lt-ltb n (256 ^ 4) small) (ap not (c .0))) refl);
     }
-
-has-more : (k : ℕ) (l m : List ℕ) → has k l ≡ true → has k (l ++ m) ≡ true
-has-more k l m h = rw (has-append k l m) (or-l (has k l) (has k m) h)
 
 none-or-more : (k : ℕ) (l m : List ℕ) → noneOrKnown k l ≡ true → noneOrKnown k (l ++ m) ≡ true
 none-or-more k l m h =
     or-elim (eqb k (blank 4)) (has k l) h (or-l (eqb k (blank 4)) (has k (l ++ m)))
     (λ e. or-r (eqb k (blank 4)) (has k (l ++ m)) (has-more k l m e))
 
--- the requests do not mind more names
-module _ (L : Limits) (i : Interval) (m : List ℕ) where
-  more-programs : (l : List Request) → all (soundRequest L i) l ≡ true → all (soundRequest L (withPrograms i (i .programs ++ m))) l ≡ true
-  more-programs = all-imp (soundRequest L i) (soundRequest L (withPrograms i (i .programs ++ m))) one
-    where
-      one : (q : Request) → soundRequest L i q ≡ true → soundRequest L (withPrograms i (i .programs ++ m)) q ≡ true
-      one q h =
-          let v = view-request L i q h in
-          and-i (and-i (and-i (and-i (v .named) (has-more (q .program) (i .programs) m (v .program))) (v .terminal)) (v .content)) (v .phase)
-
-  more-terminals : (l : List Request) → all (soundRequest L i) l ≡ true → all (soundRequest L (withTerminals i (i .terminals ++ m))) l ≡ true
-  more-terminals = all-imp (soundRequest L i) (soundRequest L (withTerminals i (i .terminals ++ m))) one
-    where
-      one : (q : Request) → soundRequest L i q ≡ true → soundRequest L (withTerminals i (i .terminals ++ m)) q ≡ true
-      one q h =
-          let v = view-request L i q h in
-          and-i (and-i (and-i (and-i (v .named) (v .program)) (none-or-more (q .terminal) (i .terminals) m (v .terminal))) (v .content)) (v .phase)
-
 module _ (L : Limits) (i : Interval) (s : soundInterval L i ≡ true) where
+  -- the requests do not mind more names
+  module _ (p t : List ℕ) (more-programs : (k : ℕ) → has k (i .programs) ≡ true → has k p ≡ true)
+      (more-terminals : (k : ℕ) → noneOrKnown k (i .terminals) ≡ true → noneOrKnown k t ≡ true) where
+    abbrev named-so : Interval
+    named-so = withTerminals (withPrograms i p) t
+
+    one-more : (q : Request) → soundRequest L i q ≡ true → soundRequest L named-so q ≡ true
+    one-more q h =
+        let v = view-request L i q h in
+        and-i (and-i (and-i (and-i (v .named) (more-programs (q .program) (v .program))) (more-terminals (q .terminal) (v .terminal))) (v .content)) (v .phase)
+
+    put-names : NamesSound (L .programs) p → NamesSound (L .terminals) t → soundInterval L (withTerminals (withPrograms i p) t) ≡ true
+    put-names new-programs new-terminals =
+        let r = view s .requests in
+        unview
+        (record {
+          programs = new-programs;
+          terminals = new-terminals;
+          requests = record {
+            fit = r .fit;
+            unique = r .unique;
+            sound = all-imp (soundRequest L i) (soundRequest L named-so) one-more (i .requests) (r .sound);
+            runs = r .runs;
+            holds = r .holds;
+          };
+        })
+
   pub program-sound : (n : ℕ) → n < 256 ^ 4 → firstOf (defineProgram L i n .checks) ≡ 0
       → soundInterval L (defineProgram L i n .effect .state) ≡ true
   unfolding defineProgram
   program-sound n small e =
-      let v = view s in
-      let g = grown (L .programs) (i .programs) n (withPrograms i) small (v .programs-once) (v .programs-named) e in
-      unview
-      (record {
-        programs-fit = g .fit;
-        programs-once = g .unique;
-        programs-named = g .named;
-        terminals-fit = v .terminals-fit;
-        terminals-once = v .terminals-once;
-        terminals-named = v .terminals-named;
-        requests-fit = v .requests-fit;
-        requests-once = v .requests-once;
-        requests-sound = more-programs L i (n ∷ []) (i .requests) (v .requests-sound);
-        running-once = v .running-once;
-        held-once = v .held-once;
-      })
+      put-names (i .programs ++ (n ∷ [])) (i .terminals) (λ k. has-more k (i .programs) (n ∷ [])) (λ k h. h)
+      (grown (L .programs) (i .programs) n (withPrograms i) small (view s .programs) e) (view s .terminals)
 
   pub terminal-sound : (n : ℕ) → n < 256 ^ 4 → firstOf (defineTerminal L i n .checks) ≡ 0
       → soundInterval L (defineTerminal L i n .effect .state) ≡ true
   unfolding defineTerminal
   terminal-sound n small e =
-      let v = view s in
-      let g = grown (L .terminals) (i .terminals) n (withTerminals i) small (v .terminals-once) (v .terminals-named) e in
-      unview
-      (record {
-        programs-fit = v .programs-fit;
-        programs-once = v .programs-once;
-        programs-named = v .programs-named;
-        terminals-fit = g .fit;
-        terminals-once = g .unique;
-        terminals-named = g .named;
-        requests-fit = v .requests-fit;
-        requests-once = v .requests-once;
-        requests-sound = more-terminals L i (n ∷ []) (i .requests) (v .requests-sound);
-        running-once = v .running-once;
-        held-once = v .held-once;
-      })
+      put-names (i .programs) (i .terminals ++ (n ∷ [])) (λ k h. h) (λ k. none-or-more k (i .terminals) (n ∷ []))
+      (view s .programs) (grown (L .terminals) (i .terminals) n (withTerminals i) small (view s .terminals) e)
 
 -- ---- other requests, and another clock
 
-pub record RequestsSound (L : Limits) (i : Interval) (l : List Request) : Type 0 where
-  pub fit : length l ≤ L .requests
-  pub unique : once (map nameOf l) ≡ true
-  pub sound : all (soundRequest L i) l ≡ true
-  pub runs : once (running l) ≡ true
-  pub holds : once (held l) ≡ true
-
-pub put-requests : (L : Limits) (i : Interval) (c : ℕ) (l : List Request) → soundInterval L i ≡ true → RequestsSound L (withClock i c) l
+pub put-requests : (L : Limits) (i : Interval) (c : ℕ) (l : List Request) → soundInterval L i ≡ true → RequestsSound L (withClock (withRequests i l) c) l
     → soundInterval L (withClock (withRequests i l) c) ≡ true
-put-requests L i c l s r =
-    let v = view s in
-    unview
-    (record {
-      programs-fit = v .programs-fit;
-      programs-once = v .programs-once;
-      programs-named = v .programs-named;
-      terminals-fit = v .terminals-fit;
-      terminals-once = v .terminals-once;
-      terminals-named = v .terminals-named;
-      requests-fit = r .fit;
-      requests-once = r .unique;
-      requests-sound = r .sound;
-      running-once = r .runs;
-      held-once = r .holds;
-    })
+put-requests L i c l s r = unview (record { programs = view s .programs; terminals = view s .terminals; requests = r })
 
 -- ---- fewer requests
-
-fewer-once : (f : Request → ℕ) (a p : Request → Bool) (l : List Request) → once (map f (keep a l)) ≡ true
-    → once (map f (keep a (keep p l))) ≡ true
-fewer-once f a p l o = rw (keep-comm a p l) (once-keep f p (keep a l) o)
 
 module _ (L : Limits) (i : Interval) (s : soundInterval L i ≡ true) where
   keep-sound : (p : Request → Bool) → soundInterval L (withRequests i (keep p (i .requests))) ≡ true
   keep-sound p =
-      let v = view s in
+      let r = view s .requests in
       put-requests L i (i .clock) (keep p (i .requests)) s
       (record {
-        fit = omega (arith, v .requests-fit, length-keep p (i .requests));
-        unique = once-keep nameOf p (i .requests) (v .requests-once);
-        sound = all-keep (soundRequest L i) p (i .requests) (v .requests-sound);
-        runs = fewer-once programOf active p (i .requests) (v .running-once);
-        holds = fewer-once terminalOf holder p (i .requests) (v .held-once);
+        fit = omega (arith, r .fit, length-keep p (i .requests));
+        unique = once-keep nameOf p (i .requests) (r .unique);
+        sound = all-keep (soundRequest L i) p (i .requests) (r .sound);
+        runs = fewer-once programOf active p (i .requests) (r .runs);
+        holds = fewer-once terminalOf holder p (i .requests) (r .holds);
       })
 
   pub remove-sound : (n : ℕ) → soundInterval L (remove i n) ≡ true

@@ -11,13 +11,15 @@ use native.Mathlib.Omega.{arith}
 use borrow.Author.Tests.{leb-true, leb-false, ltb-false, le-leb, lt-ltb, not-false}
 use Rattle.base.specs.Lists.{keep, all, once}
 use Rattle.base.specs.Bytes.{isName, isBytes}
-use Rattle.base.specs.Laws.Tests.{byTest, no, and-l, and-r, and-i, pick-elim}
+use Rattle.base.specs.Laws.Tests.{byTest, no, and-l, and-r, both, and-i, or-false-l, or-false-r, pick-elim}
 use Rattle.base.specs.Laws.Keep.{length-keep, all-append, all-keep, all-first, all-imp, all-set, all-getD-or, first-or, first-none}
-use Rattle.base.specs.Laws.Counting.{once-keep, once-tail, map-at-names, keep-named, drop-one}
+use Rattle.base.specs.Laws.Maps.{map-none}
+use Rattle.base.specs.Laws.Counting.{once-keep, once-tail, map-at-names, only-named, keep-named, drop-one, all-at}
+use Rattle.base.specs.Laws.Listed.{added-elim, all-added, once-added, any-added}
 use Rattle.model.specs.Limits.{Limits, isItem, isData, some}
 use Rattle.model.specs.Plans.{firstOf, noSpace, Outcome, fault, done}
 use Rattle.model.specs.Queues.{Queue, noItems, knownQueue, queueOf, atQueue, itemsIn, longer, made, append, pointAt, itemAt, reading, readNext, readAt, rewritten, rewrite, delete, soundQueue, soundQueues}
-use Rattle.model.specs.Laws.PlanLaws.{clears, or-false-l, or-false-r, map-none, only-named, all-at, added-elim, all-added, once-added, any-added}
+use Rattle.model.specs.Laws.PlanLaws.{clears}
 
 abbrev nameOf : Queue → ℕ
 nameOf q = q .name
@@ -44,39 +46,21 @@ pub record QueueSound (L : Limits) (q : Queue) : Type 0 where
 module _ (L : Limits) where
   pub viewOne : (q : Queue) → soundQueue L q ≡ true → QueueSound L q
   viewOne q h =
-      let named : Bool = isName 8 (q .name) in
-      let pointed : Bool = leb (q .pointer) (length (q .items)) in
-      let two : (named && pointed) ≡ true = and-l (named && pointed) (all (isItem L) (q .items)) h in
-      record {
-        named = and-l named pointed two;
-        pointed = leb-true (q .pointer) (length (q .items)) (and-r named pointed two);
-        filled = and-r (named && pointed) (all (isItem L) (q .items)) h;
-      }
+      let p3 = both _ _ h in
+      let p2 = both _ _ (p3 .0) in
+      record { named = p2 .0; pointed = leb-true _ _ (p2 .1); filled = p3 .1 }
 
   pub unviewOne : (q : Queue) → QueueSound L q → soundQueue L q ≡ true
   unviewOne q s = and-i (and-i (s .named) (le-leb (q .pointer) (length (q .items)) (s .pointed))) (s .filled)
 
   module _ (l : List Queue) where
-    abbrev few? : Bool
-    few? = leb (length l) (L .queues)
-
-    abbrev room? : Bool
-    room? = leb (itemsIn l) (L .slots)
-
-    abbrev unique? : Bool
-    unique? = once (map nameOf l)
-
     pub view : soundQueues L l ≡ true → QueuesSound L l
     unfolding soundQueues
     view h =
-        let three : (few? && room? && unique?) ≡ true = and-l (few? && room? && unique?) (all (soundQueue L) l) h in
-        let two : (few? && room?) ≡ true = and-l (few? && room?) unique? three in
-        record {
-          few = leb-true (length l) (L .queues) (and-l few? room? two);
-          room = leb-true (itemsIn l) (L .slots) (and-r few? room? two);
-          unique = and-r (few? && room?) unique? three;
-          each = and-r (few? && room? && unique?) (all (soundQueue L) l) h;
-        }
+        let p4 = both _ _ h in
+        let p3 = both _ _ (p4 .0) in
+        let p2 = both _ _ (p3 .0) in
+        record { few = leb-true _ _ (p2 .0); room = leb-true _ _ (p2 .1); unique = p3 .1; each = p4 .1 }
 
     pub unview : QueuesSound L l → soundQueues L l ≡ true
     unfolding soundQueues

@@ -1,20 +1,21 @@
 -- Tables moved on by k ticks are as sound as they were. Assumes nothing.
 use Prim.Native.Nat.{ℕ, _+_}
 use native.Mathlib.Omega.{arith}
-use mathlib.Core.Path.{_≡_, refl, ap, sym, _∙_}
-use mathlib.Core.Bool.{Bool, true, false, not, _&&_, _||_}
+use mathlib.Core.Path.{_≡_, refl, ap, _∙_}
+use mathlib.Core.Bool.{Bool, not, _&&_}
 use mathlib.Core.List.{List, map, map-map}
-use lib.ListN.{length, length-map}
-use lib.Dec.{leb, ltb, eqb}
-use Rattle.base.specs.Lists.{keep, all, has, once}
-use Rattle.base.specs.Bytes.{blank, isName}
+use lib.ListN.{length-map}
+use lib.Dec.{eqb}
+use Rattle.base.specs.Lists.{keep}
+use Rattle.base.specs.Bytes.{blank}
 use Rattle.base.specs.Laws.Tests.{leb-add, ltb-add}
 use Rattle.base.specs.Laws.Keep.{all-same}
 use Rattle.base.specs.Laws.Maps.{all-map, keep-map}
-use Rattle.model.specs.Limits.{Limits, isData}
-use Rattle.model.specs.Interval.{Phase, Waiting, Expired, Active, Request, Interval, active, activeTask, noneOrKnown, soundPhase, soundRequest, running, held, soundInterval}
+use Rattle.model.specs.Limits.{Limits}
+use Rattle.model.specs.Interval.{Phase, Waiting, Expired, Active, Request, Interval, active, activeTask, soundPhase, soundRequest, running, held, soundInterval}
 use Rattle.model.specs.Handlers.{Task}
 use Rattle.model.specs.State.{State, sound}
+use Rattle.model.specs.Laws.SoundInterval.{holder}
 use Rattle.model.specs.Laws.Shift.{laterPhase, later, shiftInterval, shift, active-later, task-shift}
 
 module _ (k : ℕ) (L : Limits) (i : Interval) where
@@ -36,14 +37,10 @@ module _ (k : ℕ) (L : Limits) (i : Interval) where
       ap (map (λ (q : Request). q .program)) (keep-map (later k) active active (λ q. active-later k (q .phase)) (i .requests))
       ∙ map-map (λ (q : Request). q .program) (later k) (keep active (i .requests))
 
-  holds : Request → Bool
-  holds q = active q && not (eqb (q .terminal) (blank 4))
-
   held-shift : held (map (later k) (i .requests)) ≡ held (i .requests)
-  unfolding holds
   held-shift =
-      ap (map (λ (q : Request). q .terminal)) (keep-map (later k) holds holds (λ q. ap (λ (b : Bool). b && not (eqb (q .terminal) (blank 4))) (active-later k (q .phase))) (i .requests))
-      ∙ map-map (λ (q : Request). q .terminal) (later k) (keep holds (i .requests))
+      ap (map (λ (q : Request). q .terminal)) (keep-map (later k) holder holder (λ q. ap (λ (b : Bool). b && not (eqb (q .terminal) (blank 4))) (active-later k (q .phase))) (i .requests))
+      ∙ map-map (λ (q : Request). q .terminal) (later k) (keep holder (i .requests))
 
   pub interval-shift : soundInterval L (shiftInterval k i) ≡ soundInterval L i
   unfolding soundInterval

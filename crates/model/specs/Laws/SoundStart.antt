@@ -2,28 +2,23 @@
 -- Assumes nothing.
 use Prim.Native.Nat.{ℕ, suc, zero, _+_, _^_, _<_, _≤_}
 use mathlib.Core.Path.{_≡_, refl, ap, _∙_}
-use mathlib.Core.Bool.{Bool, true, false, not}
-use mathlib.Core.List.{List, [], _∷_, _++_, map, append-nil}
+use mathlib.Core.Bool.{true, false, not}
+use mathlib.Core.List.{List, [], _∷_, _++_, map}
 use native.Mathlib.Omega.{arith}
 use lib.ListN.{length, length-append}
 use lib.Dec.{ltb, eqb}
 use borrow.Author.Tests.{leb-false, ltb-false, le-leb, lt-ltb, not-false}
-use Rattle.base.specs.Lists.{keep, has}
+use Rattle.base.specs.Lists.{has}
 use Rattle.base.specs.Bytes.{blank, isBytes}
-use Rattle.base.specs.Laws.Tests.{and-i}
-use Rattle.base.specs.Laws.Keep.{keep-append, all-append}
+use Rattle.base.specs.Laws.Tests.{and-i, or-false-l, or-false-r}
+use Rattle.base.specs.Laws.Keep.{keep-snoc, all-append}
 use Rattle.base.specs.Laws.Maps.{map-append}
 use Rattle.base.specs.Laws.Counting.{has-map, once-snoc}
 use Rattle.model.specs.Limits.{Limits}
 use Rattle.model.specs.Plans.{firstOf}
 use Rattle.model.specs.Interval.{Request, Interval, Asked, isActive, active, knownRequest, begun, accepted, noneOrKnown, start, soundPhase, soundRequest, soundInterval}
-use Rattle.model.specs.Laws.PlanLaws.{clears, or-false-l, or-false-r}
+use Rattle.model.specs.Laws.PlanLaws.{clears}
 use Rattle.model.specs.Laws.SoundInterval.{view, put-requests, nameOf, holder}
-
--- ---- list laws
-
-keep-snoc : {A : Type 0} (p : A → Bool) (l : List A) (x : A) → p x ≡ false → keep p (l ++ (x ∷ [])) ≡ keep p l
-keep-snoc p l x e = rw (keep-append p l (x ∷ []), e) (append-nil (keep p l))
 
 -- ---- the phase of a new request
 
@@ -71,7 +66,7 @@ pub start-sound : (L : Limits) (i : Interval) → soundInterval L i ≡ true →
 unfolding start
 start-sound L i s a small bytes e =
     let t = startable L i a e in
-    let v = view s in
+    let v = view s .requests in
     let l : List Request = i .requests in
     let new : Request = accepted (i .clock) a in
     let unused : has (a .name) (map nameOf l) ≡ false = has-map nameOf (a .name) l ∙ t .fresh in
@@ -79,8 +74,8 @@ start-sound L i s a small bytes e =
     put-requests L i (i .clock) (l ++ (new ∷ [])) s
     (record {
       fit = simp length-append (omega (arith, t .room));
-      unique = rw (map-append nameOf l (new ∷ [])) (once-snoc (a .name) (map nameOf l) unused (v .requests-once));
-      sound = rw (all-append (soundRequest L i) l (new ∷ []), v .requests-sound) (and-i (new-sound L i a small bytes t) refl);
-      runs = rw (keep-snoc active l new idle) (v .running-once);
-      holds = rw (keep-snoc holder l new (rw idle)) (v .held-once);
+      unique = rw (map-append nameOf l (new ∷ [])) (once-snoc (a .name) (map nameOf l) unused (v .unique));
+      sound = rw (all-append (soundRequest L i) l (new ∷ []), v .sound) (and-i (new-sound L i a small bytes t) refl);
+      runs = rw (keep-snoc active l new idle) (v .runs);
+      holds = rw (keep-snoc holder l new (rw idle)) (v .holds);
     })

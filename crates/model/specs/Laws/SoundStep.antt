@@ -1,28 +1,27 @@
 -- One record keeps sound tables sound, whatever it is. Assumes nothing.
-use Prim.Native.Nat.{ℕ, suc, zero, _+_, _^_, _<_, _≤_}
+use Prim.Native.Nat.{ℕ}
 use native.Mathlib.Omega.{arith}
-use mathlib.Core.Path.{_≡_, refl, ap, sym, _∙_}
-use mathlib.Core.Bool.{Bool, true, false, not, _&&_, _||_}
-use mathlib.Core.List.{List, [], _∷_}
-use lib.ListN.{length, drop}
+use mathlib.Core.Path.{_≡_, refl, sym, _∙_}
+use mathlib.Core.Bool.{true, false, not, _&&_}
+use mathlib.Core.List.{List}
 use lib.Dec.{eqb}
-use borrow.Author.Tests.{not-true, not-false}
-use Rattle.base.specs.Choice.{pick}
+use borrow.Author.Tests.{not-true}
 use Rattle.base.specs.Lists.{all}
-use Rattle.base.specs.Bytes.{num, blank, isBytes}
-use Rattle.base.specs.Laws.Tests.{no, and-l, and-r, and-i, or-elim, pick-elim}
+use Rattle.base.specs.Bytes.{blank, isBytes}
+use Rattle.base.specs.Laws.Tests.{no, and-l, and-r, both, and-i, or-elim}
 use Rattle.base.specs.Laws.Keep.{all-imp}
 use Rattle.base.specs.Laws.Bytes.{num-bound, isBytes-drop}
 use Rattle.model.specs.Limits.{Limits}
-use Rattle.model.specs.Plans.{Outcome, Plan, firstOf, normal, check, invalidRequest}
+use Rattle.model.specs.Plans.{Outcome, firstOf}
 use Rattle.model.specs.Queues.{Queue, soundQueues}
 use Rattle.model.specs.Interval.{Interval, activeTask, remove, soundInterval}
 use Rattle.model.specs.Handlers
 use Rattle.model.specs.Handlers.{Setting, Unset, Ignore, Label, Task, forget, decides, soundTasks}
 use Rattle.model.specs.State.{State, emptyAt, withInterval, withQueues, withTasks, withoutTask, sound}
-use Rattle.model.specs.Commands.{Row, Turn, command, issuer, operand, rest, asked, wrongKind, sys, task, anyone, rowOf, planOf, obeyed, settled, settle, refused, formed, allowed, step}
-use Rattle.model.specs.Laws.Rows.{of-every}
+use Rattle.model.specs.Commands.{Row, Turn, command, issuer, operand, rest, asked, wrongKind, rowOf, planOf, obeyed, settled, settle, allowed, step}
+use Rattle.model.specs.Laws.Rows.{_▹_, of-every}
 use Rattle.model.specs.Laws.PlanLaws.{clear-head, obey-keeps}
+use Rattle.model.specs.Laws.Conditions.{settle-is, step-heard, turn-is}
 use Rattle.model.specs.Laws.SoundQueues as queues
 use Rattle.model.specs.Laws.SoundTasks as tasks
 use Rattle.model.specs.Laws.SoundInterval.{idle-sound, ask-sound, program-sound, terminal-sound, remove-sound, cancel-sound}
@@ -42,16 +41,10 @@ pub record StateSound (L : Limits) (s : State) : Type 0 where
 pub view : (L : Limits) (s : State) → sound L s ≡ true → StateSound L s
 unfolding sound
 view L s h =
-    let three : Bool = soundInterval L (s .interval) && soundQueues L (s .queues) && soundTasks (s .tasks) in
-    let two : Bool = soundInterval L (s .interval) && soundQueues L (s .queues) in
-    let h1 : three ≡ true = and-l three _ h in
-    let h2 : two ≡ true = and-l two (soundTasks (s .tasks)) h1 in
-    record {
-      interval = and-l (soundInterval L (s .interval)) (soundQueues L (s .queues)) h2;
-      queues = and-r (soundInterval L (s .interval)) (soundQueues L (s .queues)) h2;
-      tasks = and-r two (soundTasks (s .tasks)) h1;
-      active = and-r three _ h;
-    }
+    let p4 = both _ _ h in
+    let p3 = both _ _ (p4 .0) in
+    let p2 = both _ _ (p3 .0) in
+    record { interval = p2 .0; queues = p2 .1; tasks = p3 .1; active = p4 .1 }
 
 pub unview : (L : Limits) (s : State) → StateSound L s → sound L s ≡ true
 unfolding sound
@@ -93,8 +86,8 @@ module _ (L : Limits) (s : State) (v : StateSound L s) where
         queues = v .queues;
         tasks = tasks.forget-sound (s .tasks) n (v .tasks);
         active =
-          all-imp (λ (t : Task). activeTask (s .interval) (t .name) && not (eqb (t .name) n)) (λ (t : Task). activeTask (remove (s .interval) n) (t .name)) (still-active n)
-          (forget (s .tasks) n) (tasks.forget-named (s .tasks) n (activeTask (s .interval)) (v .active));
+            all-imp (λ (t : Task). activeTask (s .interval) (t .name) && not (eqb (t .name) n)) (λ (t : Task). activeTask (remove (s .interval) n) (t .name)) (still-active n)
+            (forget (s .tasks) n) (tasks.forget-named (s .tasks) n (activeTask (s .interval)) (v .active));
       })
 
 -- ---- every row of the table
@@ -121,24 +114,24 @@ row-sound : (n : ℕ) → Keeps n (rowOf n)
 unfolding Keeps Handlers.handle Handlers.ignore Handlers.reset
 row-sound =
     of-every Keeps (λ n L s r v b a w e. unview L s v)
-    ((λ L s r v b a w e. interval-in L s v _ (program-sound L (s .interval) (v .interval) (operand 0 4 r) (num-bound 9 4 r b) e) (λ m h. program-active L (s .interval) (operand 0 4 r) m h e)),
-    ((λ L s r v b a w e. interval-in L s v _ (terminal-sound L (s .interval) (v .interval) (operand 0 4 r) (num-bound 9 4 r b) e) (λ m h. terminal-active L (s .interval) (operand 0 4 r) m h e)),
-    ((λ L s r v b a w e. interval-in L s v _ (advance-sound L (s .interval) (v .interval) (operand 0 4 r) e) (λ m h. advance-active L (s .interval) (operand 0 4 r) m h e)),
-    ((λ L s r v b a w e. interval-in L s v _ (ask-sound L (s .interval) (v .interval) e) (λ m h. ask-active (s .interval) m h e)),
-    ((λ L s r v b a w e. interval-in L s v _ (dispatch-sound L (s .interval) (v .interval) e) (λ m h. dispatch-active (s .interval) m h e)),
-    ((λ L s r v b a w e. interval-in L s v _ (start-sound L (s .interval) (v .interval) (asked r) (num-bound 9 8 r b) (isBytes-drop 29 r b) e) (λ m h. start-active L (s .interval) (asked r) m h e)),
-    ((λ L s r v b a w e. interval-in L s v _ (cancel-sound L (s .interval) (v .interval) (operand 0 8 r) e) (λ m h. cancel-active (s .interval) (operand 0 8 r) m h e)),
-    ((λ L s r v b a w e. interval-in L s v _ (retrieve-sound L (s .interval) (v .interval) (issuer r) (operand 0 1 r) e) (λ m h. retrieve-active L (s .interval) (v .interval) (issuer r) (operand 0 1 r) m h e)),
-    ((λ L s r v b a w e. without-sound L s v (issuer r)),
-    ((λ L s r v b a w e. queues-in L s v _ (queues.append-sound L (L .slots) (s .queues) (operand 0 8 r) (rest 8 r) (omega arith) (num-bound 9 8 r b) (isBytes-drop 17 r b) (v .queues) e)),
-    ((λ L s r v b a w e. queues-in L s v _ (queues.readNext-sound L (s .queues) (operand 0 8 r) (operand 8 1 r) (v .queues) e)),
-    ((λ L s r v b a w e. queues-in L s v _ (queues.readAt-sound L (s .queues) (operand 0 8 r) (operand 8 2 r) (operand 10 1 r) (v .queues) e)),
-    ((λ L s r v b a w e. queues-in L s v _ (queues.rewrite-sound L (s .queues) (operand 0 8 r) (operand 8 2 r) (rest 10 r) (isBytes-drop 19 r b) (v .queues) e)),
-    ((λ L s r v b a w e. queues-in L s v _ (queues.delete-sound L (s .queues) (operand 0 8 r) (v .queues) e)),
-    ((λ L s r v b a w e. set-in L s r v a w (operand 0 1 r) (Label (operand 1 2 r)) (tasks.handle-sound (s .tasks) (issuer r) (operand 0 1 r) (operand 1 2 r) (num-bound 10 2 r b) (v .tasks) e)),
-    ((λ L s r v b a w e. set-in L s r v a w (operand 0 1 r) Ignore (tasks.ignore-sound (s .tasks) (issuer r) (operand 0 1 r) (v .tasks) e)),
-    ((λ L s r v b a w e. set-in L s r v a w (operand 0 1 r) Unset (tasks.reset-sound (s .tasks) (issuer r) (operand 0 1 r) (v .tasks) e)),
-    tt)))))))))))))))))
+    ((λ L s r v b a w e. interval-in L s v _ (program-sound L (s .interval) (v .interval) (operand 0 4 r) (num-bound 9 4 r b) e) (λ m h. program-active L (s .interval) (operand 0 4 r) m h e))
+    ▹ (λ L s r v b a w e. interval-in L s v _ (terminal-sound L (s .interval) (v .interval) (operand 0 4 r) (num-bound 9 4 r b) e) (λ m h. terminal-active L (s .interval) (operand 0 4 r) m h e))
+    ▹ (λ L s r v b a w e. interval-in L s v _ (advance-sound L (s .interval) (v .interval) (operand 0 4 r) e) (λ m h. advance-active L (s .interval) (operand 0 4 r) m h e))
+    ▹ (λ L s r v b a w e. interval-in L s v _ (ask-sound L (s .interval) (v .interval) e) (λ m h. ask-active (s .interval) m h e))
+    ▹ (λ L s r v b a w e. interval-in L s v _ (dispatch-sound L (s .interval) (v .interval) e) (λ m h. dispatch-active (s .interval) m h e))
+    ▹ (λ L s r v b a w e. interval-in L s v _ (start-sound L (s .interval) (v .interval) (asked r) (num-bound 9 8 r b) (isBytes-drop 29 r b) e) (λ m h. start-active L (s .interval) (asked r) m h e))
+    ▹ (λ L s r v b a w e. interval-in L s v _ (cancel-sound L (s .interval) (v .interval) (operand 0 8 r) e) (λ m h. cancel-active (s .interval) (operand 0 8 r) m h e))
+    ▹ (λ L s r v b a w e. interval-in L s v _ (retrieve-sound L (s .interval) (v .interval) (issuer r) (operand 0 1 r) e) (λ m h. retrieve-active L (s .interval) (v .interval) (issuer r) (operand 0 1 r) m h e))
+    ▹ (λ L s r v b a w e. without-sound L s v (issuer r))
+    ▹ (λ L s r v b a w e. queues-in L s v _ (queues.append-sound L (L .slots) (s .queues) (operand 0 8 r) (rest 8 r) (omega arith) (num-bound 9 8 r b) (isBytes-drop 17 r b) (v .queues) e))
+    ▹ (λ L s r v b a w e. queues-in L s v _ (queues.readNext-sound L (s .queues) (operand 0 8 r) (operand 8 1 r) (v .queues) e))
+    ▹ (λ L s r v b a w e. queues-in L s v _ (queues.readAt-sound L (s .queues) (operand 0 8 r) (operand 8 2 r) (operand 10 1 r) (v .queues) e))
+    ▹ (λ L s r v b a w e. queues-in L s v _ (queues.rewrite-sound L (s .queues) (operand 0 8 r) (operand 8 2 r) (rest 10 r) (isBytes-drop 19 r b) (v .queues) e))
+    ▹ (λ L s r v b a w e. queues-in L s v _ (queues.delete-sound L (s .queues) (operand 0 8 r) (v .queues) e))
+    ▹ (λ L s r v b a w e. set-in L s r v a w (operand 0 1 r) (Label (operand 1 2 r)) (tasks.handle-sound (s .tasks) (issuer r) (operand 0 1 r) (operand 1 2 r) (num-bound 10 2 r b) (v .tasks) e))
+    ▹ (λ L s r v b a w e. set-in L s r v a w (operand 0 1 r) Ignore (tasks.ignore-sound (s .tasks) (issuer r) (operand 0 1 r) (v .tasks) e))
+    ▹ (λ L s r v b a w e. set-in L s r v a w (operand 0 1 r) Unset (tasks.reset-sound (s .tasks) (issuer r) (operand 0 1 r) (v .tasks) e))
+    ▹ tt)
 
 -- ---- one record
 
@@ -148,7 +141,7 @@ module _ (L : Limits) (s : State) (r : List ℕ) (v : StateSound L s) (b : isByt
   obeyed-sound a =
       obey-keeps (λ (x : State). sound L x ≡ true) s (planOf (rowOf (command r)) L s r) (unview L s v)
       (λ e. let c = clear-head (wrongKind (rowOf (command r) .who) (issuer r)) 9 (rowOf (command r) .plans L s r .checks) e in
-        row-sound (command r) L s r v b a (c .0) (c .1))
+      row-sound (command r) L s r v b a (c .0) (c .1))
 
   settled-sound : (o : Outcome State) (n : ℕ) (x : Setting) → sound L (o .state) ≡ true → sound L (settled o n x .state) ≡ true
   settled-sound o n Unset h = without-sound L (o .state) (view L (o .state) h) n
@@ -157,15 +150,13 @@ module _ (L : Limits) (s : State) (r : List ℕ) (v : StateSound L s) (b : isByt
 
   settle-sound : (o : Outcome State) → sound L (o .state) ≡ true → sound L (settle s (issuer r) o .state) ≡ true
   settle-sound o h =
-      pick-elim (λ (x : Turn). sound L (x .state) ≡ true) (eqb (o .condition) normal || eqb (issuer r) (blank 8)) (settled o (issuer r) Ignore) (settled o (issuer r) (decides (s .tasks) (issuer r) (o .condition)))
-      (λ _. settled-sound o (issuer r) Ignore h) (λ _. settled-sound o (issuer r) (decides (s .tasks) (issuer r) (o .condition)) h)
+      settle-is (λ (x : Turn). sound L (x .state) ≡ true) s (issuer r) o (settled-sound o (issuer r) Ignore h)
+      (settled-sound o (issuer r) (decides (s .tasks) (issuer r) (o .condition)) h)
 
   turn-sound : sound L (step L s r .state) ≡ true
-  unfolding step
   turn-sound =
-      pick-elim (λ (x : Turn). sound L (x .state) ≡ true) (formed r) (pick (allowed s r) (settle s (issuer r) (obeyed L s r)) (refused s 34)) (refused s 33)
-      (λ _. pick-elim (λ (x : Turn). sound L (x .state) ≡ true) (allowed s r) (settle s (issuer r) (obeyed L s r)) (refused s 34) (λ a. settle-sound (obeyed L s r) (obeyed-sound a)) (λ _. unview L s v))
-      (λ _. unview L s v)
+      turn-is L s r (λ (x : Turn). sound L (x .state) ≡ true) (λ e a. rw (step-heard L s r e a) (settle-sound (obeyed L s r) (obeyed-sound a)))
+      (unview L s v) (unview L s v)
 
 pub step-sound : (L : Limits) (s : State) (r : List ℕ) → sound L s ≡ true → isBytes r ≡ true → sound L (step L s r .state) ≡ true
 step-sound L s r h b = turn-sound L s r (view L s h) b

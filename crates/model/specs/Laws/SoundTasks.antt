@@ -11,12 +11,14 @@ use native.Mathlib.Omega.{arith}
 use borrow.Author.Tests.{leb-true, ltb-true, eqb-false, le-leb, lt-ltb}
 use Rattle.base.specs.Choice.{pick}
 use Rattle.base.specs.Lists.{all, once}
-use Rattle.base.specs.Laws.Tests.{and-l, and-r, and-i, pick-elim}
+use Rattle.base.specs.Laws.Tests.{and-l, and-r, both, and-i, or-false-r, pick-elim}
 use Rattle.base.specs.Laws.Keep.{all-keep, all-keep-imp, all-imp, all-set, all-getD-or, first-or}
+use Rattle.base.specs.Laws.Maps.{all-map-imp}
 use Rattle.base.specs.Laws.Counting.{once-keep, map-at-names}
+use Rattle.base.specs.Laws.Listed.{all-added, once-added}
 use Rattle.model.specs.Plans.{firstOf, invalidRequest}
 use Rattle.model.specs.Handlers.{Setting, Unset, Ignore, Label, Task, unsetTask, settingsOf, orElse, decides, listed, setAt, setTo, handle, ignore, reset, forget, soundSetting, soundTask, soundTasks}
-use Rattle.model.specs.Laws.PlanLaws.{clears, or-false-r, all-map-imp, all-added, once-added}
+use Rattle.model.specs.Laws.PlanLaws.{clears}
 
 abbrev nameOf : Task → ℕ
 nameOf t = t .name
@@ -30,7 +32,7 @@ pub record TasksSound (l : List Task) : Type 0 where
 module _ (l : List Task) where
   pub viewTasks : soundTasks l ≡ true → TasksSound l
   unfolding soundTasks
-  viewTasks h = record { unique = and-l (once (map nameOf l)) (all soundTask l) h; each = and-r (once (map nameOf l)) (all soundTask l) h }
+  viewTasks h = let p = both _ _ h in record { unique = p .0; each = p .1 }
 
   pub unviewTasks : TasksSound l → soundTasks l ≡ true
   unfolding soundTasks
@@ -46,7 +48,7 @@ module _ (l : List Task) (n c : ℕ) (x : Setting) where
   set-all : (p : Task → Bool) → ((t : Task) → p t ≡ true → p (setAt c x t) ≡ true) → all p l ≡ true → p (unsetTask n) ≡ true
       → all p (setTo l n c x) ≡ true
   set-all p i h e =
-      all-map-imp p p (λ (t : Task). pick (eqb (t .name) n) (setAt c x t) t)
+      all-map-imp (λ (t : Task). pick (eqb (t .name) n) (setAt c x t) t) p p
       (λ t k. pick-elim (λ (r : Task). p r ≡ true) (eqb (t .name) n) (setAt c x t) t (λ _. i t k) (λ _. k))
       (listed l n) (all-added nameOf (unsetTask n) l p h e)
 

@@ -4,15 +4,14 @@
 use Prim.Native.Nat.{ℕ, suc, zero, _+_, _-_, _≤_}
 use native.Mathlib.Omega.{arith}
 use mathlib.Core.Path.{_≡_, refl, sym, _∙_}
-use mathlib.Core.Bool.{Bool, true, false, not, _&&_, _||_}
+use mathlib.Core.Bool.{Bool, true, false, not, _&&_, _||_, or-false}
 use mathlib.Core.List.{List, [], _∷_}
 use lib.ListN.{length}
 use lib.Dec.{leb, ltb, eqb}
 use borrow.Author.Tests.{eq-eqb, eqb-true}
 use Rattle.base.specs.Choice.{pick}
 use Rattle.base.specs.Lists.{any}
-use Rattle.base.specs.Bytes.{blank}
-use Rattle.base.specs.Laws.Tests.{byTest, no, and-r, or-l, or-r, or-elim, pick-elim}
+use Rattle.base.specs.Laws.Tests.{byTest, no, and-r, or-l, or-r, or-elim, pick-self, pick-elim}
 use Rattle.base.specs.Laws.Keep.{all-none, any-imp}
 use Rattle.model.specs.Limits.{Limits}
 use Rattle.model.specs.Plans.{normal, noSpace, wrongLength, Check, firstOf, Outcome, Plan, planIn, cut, obey}
@@ -22,9 +21,9 @@ use Rattle.model.specs.Handlers.{Setting, Unset, Ignore, Label, decides,
 use Rattle.model.specs.State.{State, withQueues}
 use Rattle.model.specs.Commands.{Row, command, issuer, operand, rest, fits, table, rowOf, formed, obeyPlan, planOf, obeyed, Turn, settled, settle, step}
 use Rattle.model.specs.Demands.{full, Space}
-use Rattle.model.specs.Laws.Rows.{Each, of-every}
+use Rattle.model.specs.Laws.Rows.{Each, _▹_, of-every}
 use Rattle.model.specs.Laws.PlanLaws.{gives-some, checks-clear}
-use Rattle.model.specs.Laws.Conditions.{_▹_, dispatch-is, retrieve-is, append-is, step-heard, turn-is}
+use Rattle.model.specs.Laws.Conditions.{dispatch-is, retrieve-is, append-is, settle-is, step-heard, turn-is}
 
 -- ---- checks: no space arises only from a check that gives it
 
@@ -89,19 +88,9 @@ settled-condition o n (Label k) = refl
 
 pub settle-condition : (s : State) (n : ℕ) (o : Outcome State) → settle s n o .answer .condition ≡ o .condition
 settle-condition s n o =
-    pick-elim (λ (x : Turn). x .answer .condition ≡ o .condition) (eqb (o .condition) normal || eqb n (blank 8)) (settled o n Ignore)
-    (settled o n (decides (s .tasks) n (o .condition))) (λ _. refl) (λ _. settled-condition o n (decides (s .tasks) n (o .condition)))
+    settle-is (λ (x : Turn). x .answer .condition ≡ o .condition) s n o refl (settled-condition o n (decides (s .tasks) n (o .condition)))
 
 -- ---- the rows
-
--- a check of no space at the end of the others, alone and before an effect
-alone : (b : Bool) → (pick b true false || false) ≡ b
-alone true = refl
-alone false = refl
-
-before : (b e f : Bool) → e ≡ f → (pick b true false || e) ≡ (b || f)
-before true e f h = refl
-before false e f h = h
 
 cut-not : {S : Type 0} (x : S) (room : ℕ) (b : List ℕ) → eqb (cut x room b .condition) noSpace ≡ false
 cut-not x room b = pick-elim (λ c. eqb c noSpace ≡ false) (ltb room (length b)) wrongLength normal (λ _. refl) (λ _. refl)
@@ -138,8 +127,10 @@ module _ (L : Limits) (s : State) (r : List ℕ) where
   unfolding append
   told-append =
       let l = s .queues in
-      told refl (before (not (knownQueue l (operand 0 8 r)) && leb (L .queues) (length l)) _ (leb (L .slots) (itemsIn l))
-      (append-is (λ o. eqb (o .condition) noSpace ≡ leb (L .slots) (itemsIn l)) L (L .slots) l (operand 0 8 r) (rest 8 r) (λ t. sym t) (λ t. sym t)))
+      told refl (cc (
+        pick-self (not (knownQueue l (operand 0 8 r)) && leb (L .queues) (length l)),
+        append-is (λ o. eqb (o .condition) noSpace ≡ leb (L .slots) (itemsIn l)) L (L .slots) l (operand 0 8 r) (rest 8 r) (λ t. sym t) (λ t. sym t),
+      ))
 
   told-reading : {h : Bool} (p room : ℕ) → h ≡ true → Told (planIn (withQueues s) (reading (s .queues) (operand 0 8 r) p room)) false
   told-reading p room =
@@ -149,12 +140,12 @@ module _ (L : Limits) (s : State) (r : List ℕ) where
   told-rows : Each (λ n. ToldRow (suc n)) table
   unfolding defineProgram defineTerminal advance askTicks start cancel readNext readAt rewrite delete handle ignore reset
   told-rows =
-      told refl (alone (leb (L .programs) (length (s .interval .programs))))
-      ▹ told refl (alone (leb (L .terminals) (length (s .interval .terminals))))
+      told refl (rw (or-false, pick-self))
+      ▹ told refl (rw (or-false, pick-self))
       ▹ told refl refl
       ▹ told refl refl
       ▹ told-dispatch
-      ▹ told refl (alone (leb (L .requests) (length (s .interval .requests))))
+      ▹ told refl (rw (or-false, pick-self))
       ▹ told refl refl
       ▹ told-retrieve
       ▹ told refl refl

@@ -3,48 +3,31 @@
 use Prim.Native.Nat.{ℕ, _+_}
 use mathlib.Core.Path.{_≡_, refl, sym, ap, subst, _∙_}
 use mathlib.Core.Bool.{Bool, true, false, not, _&&_, _||_}
-use mathlib.Core.List.{List, [], _∷_, _++_, map}
+use mathlib.Core.List.{List, [], _∷_}
 use lib.Dec.{eqb}
 use borrow.Author.Tests.{eqb-true, not-false}
 use Rattle.base.specs.Choice.{pick}
 use Rattle.base.specs.Lists.{keep, any, first, firstAt}
-use Rattle.base.specs.Laws.Tests.{byTest, no, and-l, and-r, and-i, or-l, eqb-same, pick-elim}
-use Rattle.base.specs.Laws.Keep.{any-append, any-keep, any-imp, any-first-any, first-passes}
-use Rattle.base.specs.Laws.Counting.{all-named}
+use Rattle.base.specs.Laws.Tests.{no, and-l, and-r, or-false-r, is-false, eqb-same, pick-elim}
+use Rattle.base.specs.Laws.Keep.{any-more, any-kept-imp, any-first-any, first-passes}
+use Rattle.base.specs.Laws.Maps.{any-map-imp}
+use Rattle.base.specs.Laws.Counting.{all-named, first-named}
 use Rattle.model.specs.Limits.{Limits, some}
 use Rattle.model.specs.Plans.{Outcome, Plan, firstOf, cut}
 use Rattle.model.specs.Interval.{Phase, Waiting, Expired, Active, Request, Interval, Asked, inPhase, isDue, isActive, isExpired, expired, active, noRequest, knownRequest, requestOf, activeTask, atRequest, remove, accepted, line, startable, started, noneStartable, hasOwn, serves, server, tookOwn, defineProgram, defineTerminal, advance, askTicks, dispatch, start, cancel, retrieve, soundInterval}
-use Rattle.model.specs.Laws.PlanLaws.{clears, or-false-r}
+use Rattle.model.specs.Laws.PlanLaws.{clears}
 use Rattle.model.specs.Laws.SoundInterval.{view, nameOf}
 use Rattle.model.specs.Laws.SoundAdvance.{stays, fallen}
-use Rattle.model.specs.Laws.SoundDispatch.{first-named}
-
--- ---- list laws
-
--- a test that a change keeps
-any-map-imp : {A : Type 0} (p : A → Bool) (g : A → A) → ((x : A) → p x ≡ true → p (g x) ≡ true) → (l : List A)
-    → any p l ≡ true → any p (map g l) ≡ true
-any-map-imp p g h [] a = a
-any-map-imp p g h (x ∷ l) a =
-    byTest (p (g x)) (λ u. rw u) (λ u. rw u (byTest (p x) (λ t. no (sym u ∙ h x t)) (λ t. any-map-imp p g h l (rw t at a))))
 
 -- ---- the steps
 
 abbrev is : ℕ → Request → Bool
 is n q = active q && eqb (q .name) n
 
--- kept where the test lets it
-any-kept : (n : ℕ) (p : Request → Bool) → ((q : Request) → is n q ≡ true → p q ≡ true) → (l : List Request)
-    → any (is n) l ≡ true → any (is n) (keep p l) ≡ true
-any-kept n p h l a = any-keep (is n) p l ∙ any-imp (is n) (λ (q : Request). p q && is n q) (λ q e. and-i (h q e) e) l a
-
 active-stays : (c : ℕ) (p : Phase) → isActive p ≡ true → not (isDue c p) ≡ true
 active-stays c (Waiting d) e = no e
 active-stays c Expired e = refl
 active-stays c (Active t) e = refl
-
-any-first : (n : ℕ) (l k : List Request) → any (is n) l ≡ true → any (is n) (l ++ k) ≡ true
-any-first n l k a = any-append (is n) l k ∙ or-l (any (is n) l) (any (is n) k) a
 
 -- who is made active is active
 changed : (n m : ℕ) (taken : Bool) (q : Request) → is n q ≡ true → is n (pick (eqb (q .name) m) (inPhase (Active taken) q) q) ≡ true
@@ -52,7 +35,7 @@ changed n m taken q e =
     pick-elim (λ (r : Request). is n r ≡ true) (eqb (q .name) m) (inPhase (Active taken) q) q (λ _. and-r (active q) (eqb (q .name) n) e) (λ _. e)
 
 any-changed : (n m : ℕ) (taken : Bool) (l : List Request) → any (is n) l ≡ true → any (is n) (atRequest m (inPhase (Active taken)) l) ≡ true
-any-changed n m taken = any-map-imp (is n) (λ (q : Request). pick (eqb (q .name) m) (inPhase (Active taken) q) q) (changed n m taken)
+any-changed n m taken = any-map-imp (λ (q : Request). pick (eqb (q .name) m) (inPhase (Active taken) q) q) (is n) (is n) (changed n m taken)
 
 expired-idle : (p : Phase) → isExpired p ≡ true → isActive p ≡ false
 expired-idle (Waiting d) e = refl
@@ -66,7 +49,7 @@ abbrev pub StayActive : Interval → Plan Interval → Type 0
 StayActive i p = (n : ℕ) → activeTask i n ≡ true → firstOf (p .checks) ≡ 0 → activeTask (p .effect .state) n ≡ true
 
 pub remove-active : (i : Interval) (m n : ℕ) → eqb n m ≡ false → activeTask i n ≡ true → activeTask (remove i m) n ≡ true
-remove-active i m n d = any-kept n (λ (q : Request). not (eqb (q .name) m)) other (i .requests)
+remove-active i m n d = any-kept-imp (is n) (λ (q : Request). not (eqb (q .name) m)) other (i .requests)
   where
     other : (q : Request) → is n q ≡ true → not (eqb (q .name) m) ≡ true
     other q e = ap not (subst (λ (k : ℕ). eqb k m ≡ false) (sym (eqb-true (q .name) n (and-r (active q) (eqb (q .name) n) e))) d)
@@ -75,7 +58,7 @@ remove-active i m n d = any-kept n (λ (q : Request). not (eqb (q .name) m)) oth
 remove-idle : (i : Interval) (m n : ℕ) → activeTask i m ≡ false → activeTask i n ≡ true → activeTask (remove i m) n ≡ true
 remove-idle i m n idle a =
     remove-active i m n
-    (byTest (eqb n m) (λ t. no (sym idle ∙ subst (λ (k : ℕ). activeTask i k ≡ true) (eqb-true n m t) a)) (λ t. t)) a
+    (is-false (eqb n m) (λ t. no (sym idle ∙ subst (λ (k : ℕ). activeTask i k ≡ true) (eqb-true n m t) a))) a
 
 module _ (L : Limits) (i : Interval) where
   pub program-active : (m : ℕ) → StayActive i (defineProgram L i m)
@@ -90,12 +73,12 @@ module _ (L : Limits) (i : Interval) where
   unfolding advance
   advance-active ticks n a e =
       let c : ℕ = i .clock + ticks in
-      any-first n (keep (stays c) (i .requests)) (fallen c (i .requests))
-      (any-kept n (stays c) (λ q h. active-stays c (q .phase) (and-l (active q) (eqb (q .name) n) h)) (i .requests) a)
+      any-more (is n) (keep (stays c) (i .requests)) (fallen c (i .requests))
+      (any-kept-imp (is n) (stays c) (λ q h. active-stays c (q .phase) (and-l (active q) (eqb (q .name) n) h)) (i .requests) a)
 
   pub start-active : (w : Asked) → StayActive i (start L i w)
   unfolding start
-  start-active w n a e = any-first n (i .requests) (accepted (i .clock) w ∷ []) a
+  start-active w n a e = any-more (is n) (i .requests) (accepted (i .clock) w ∷ []) a
 
 module _ (i : Interval) where
   pub ask-active : StayActive i (askTicks i)
@@ -127,7 +110,7 @@ module _ (L : Limits) (i : Interval) (s : soundInterval L i ≡ true) where
   server-idle t h =
       let l : List Request = i .requests in
       let q : Request = server i t in
-      let o = view s .requests-once in
+      let o = view s .requests .unique in
       let known = any-first-any (serves t) (λ (x : Request). eqb (x .name) (q .name)) noRequest l h (eqb-same (q .name)) in
       all-named nameOf (q .name) noRequest active l o known
       ∙ ap active (first-named nameOf (serves t) noRequest l o h)

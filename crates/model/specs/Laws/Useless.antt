@@ -1,8 +1,8 @@
 -- Document 01's four useless monitors, each as a class, and the demand that keeps it out. Assumes nothing.
-use Prim.Native.Nat.{ℕ, _+_, _%_, _^_, _<_}
+use Prim.Native.Nat.{ℕ, _^_, _<_}
 use native.Mathlib.Omega.{arith}
 use mathlib.Core.Path.{_≡_, refl, ap, sym, _∙_}
-use mathlib.Core.Bool.{Bool, true, false}
+use mathlib.Core.Bool.{true}
 use mathlib.Core.List.{List, [], _∷_, map}
 use lib.ListN.{length}
 use lib.Dec.{eqb}
@@ -129,7 +129,7 @@ module _ (M : Monitor) where
   pub no-mimic : Mimics → Demand3 cabinet M → ⊥
   no-mimic u D =
       let e : answersFrom cabinet (emptyAt 0) (put ∷ put ∷ put ∷ []) ≡ M .step (M .fresh 0) put .answer ∷ map (u .later put) (put ∷ put ∷ []) =
-        sym (D .runs 0 0 fits refl (put ∷ put ∷ put ∷ []) refl) ∙ u .mimics put (put ∷ put ∷ []) in
+      sym (D .runs 0 0 fits refl (put ∷ put ∷ put ∷ []) refl) ∙ u .mimics put (put ∷ put ∷ []) in
       let x : u .later put put .number ≡ 2 = sym (ap (λ (a : List Answer). nth 1 a .number) e) ∙ second-place in
       let y : u .later put put .number ≡ 3 = sym (ap (λ (a : List Answer). nth 2 a .number) e) ∙ third-place in
       omega arith

@@ -4,29 +4,30 @@
 use Prim.Native.Nat.{ℕ, suc, zero, _+_, _^_, _<_, _≤_}
 use native.Mathlib.Omega.{arith}
 use native.Mathlib.Nat.{mod-lt}
-use mathlib.Core.Path.{_≡_, refl, _∙_}
+use mathlib.Core.Path.{_≡_, refl}
 use mathlib.Core.Logic.{inl, inr}
-use mathlib.Core.Bool.{true, _&&_, _||_}
+use mathlib.Core.Bool.{true}
 use mathlib.Core.List.{List, [], _∷_, _++_}
 use lib.ListN.{length, take, length-take}
 use lib.Dec.{leb, ltb, eqb}
 use borrow.Author.Tests.{leb-false, ltb-true}
-use Rattle.base.specs.Bytes.{bytesOf, isBytes, blank}
-use Rattle.base.specs.Laws.Tests.{byTest, and-l, and-r, and-i, pick-elim}
-use Rattle.base.specs.Laws.Bytes.{isBytes-append, isBytes-take, isBytes-bytesOf}
+use Rattle.base.specs.Bytes.{bytesOf, isBytes}
+use Rattle.base.specs.Laws.Tests.{byTest, and-r}
+use Rattle.base.specs.Laws.Bytes.{isBytes-join, isBytes-take, isBytes-bytesOf}
 use Rattle.model.specs.Limits.{Limits, Fit}
-use Rattle.model.specs.Plans.{normal, firstOf, Outcome, obey}
+use Rattle.model.specs.Plans.{firstOf, Outcome, obey}
 use Rattle.model.specs.Queues.{Queue, reading, itemAt, queueOf, append, readNext, readAt, rewrite, delete, itemsIn, soundQueues}
 use Rattle.model.specs.Interval.{Interval, Request, requestOf, server, soundInterval, defineProgram, defineTerminal, advance, askTicks, dispatch, start, cancel, retrieve}
-use Rattle.model.specs.Handlers.{Setting, Unset, Ignore, Label, decides, soundSetting, soundTasks, handle, ignore, reset}
+use Rattle.model.specs.Handlers.{Setting, Unset, Ignore, Label, decides, soundSetting, handle, ignore, reset}
 use Rattle.model.specs.State.{State, sound}
 use Rattle.model.specs.Commands.{Row, Answer, Turn, command, issuer, operand, rest, table, rowOf, formed, allowed, planOf, obeyed, plain, settled, settle, step}
 use Rattle.model.specs.Demands.{Proper}
-use Rattle.model.specs.Laws.Rows.{Each, of-every}
+use Rattle.model.specs.Laws.Rows.{Each, _▹_, of-every}
 use Rattle.model.specs.Laws.SoundQueues.{item-size, item-bytes, items-few}
 use Rattle.model.specs.Laws.SoundTasks.{decides-sound}
 use Rattle.model.specs.Laws.IntervalSizes.{own-size, server-size, requests-few, line-few, newly-few}
-use Rattle.model.specs.Laws.Conditions.{_▹_, dispatch-is, retrieve-is, append-is, Fine, step-heard, turn-is, fine-heard}
+use Rattle.model.specs.Laws.Conditions.{dispatch-is, retrieve-is, append-is, settle-is, Fine, step-heard, turn-is, fine-heard}
+use Rattle.model.specs.Laws.SoundStep.{StateSound, view}
 
 -- ---- a refusal
 
@@ -57,31 +58,14 @@ small-cut : (room : ℕ) (b : List ℕ) → length b ≤ 64 → isBytes b ≡ tr
 small-cut room b h e = record { number = omega arith; size = rw (length-take room b) (omega arith); bytes = isBytes-take room b e }
 
 -- dispatch gives three names
-bytes-join : (a b : List ℕ) → isBytes a ≡ true → isBytes b ≡ true → isBytes (a ++ b) ≡ true
-bytes-join a b e f = isBytes-append a b ∙ and-i e f
-
 small-names : (n a b c : ℕ) → n < 2 ^ 32 → Small n (bytesOf 8 a ++ bytesOf 4 b ++ bytesOf 4 c)
 small-names n a b c h = record {
   number = h;
   size = omega arith;
-  bytes = bytes-join (bytesOf 8 a) (bytesOf 4 b ++ bytesOf 4 c) (isBytes-bytesOf 8 a) (bytes-join (bytesOf 4 b) (bytesOf 4 c) (isBytes-bytesOf 4 b) (isBytes-bytesOf 4 c));
+  bytes = isBytes-join (bytesOf 8 a) (bytesOf 4 b ++ bytesOf 4 c) (isBytes-bytesOf 8 a) (isBytes-join (bytesOf 4 b) (bytesOf 4 c) (isBytes-bytesOf 4 b) (isBytes-bytesOf 4 c));
 }
 
 -- ---- what the tables hold
-
--- the parts of sound tables
-module _ (L : Limits) (s : State) (h : sound L s ≡ true) where
-  pub sound-interval : soundInterval L (s .interval) ≡ true
-  unfolding sound
-  sound-interval = and-l _ _ (and-l _ _ (and-l _ _ h))
-
-  pub sound-queues : soundQueues L (s .queues) ≡ true
-  unfolding sound
-  sound-queues = and-r (soundInterval L (s .interval)) _ (and-l _ _ (and-l _ _ h))
-
-  pub sound-tasks : soundTasks (s .tasks) ≡ true
-  unfolding sound
-  sound-tasks = and-r (soundInterval L (s .interval) && soundQueues L (s .queues)) _ (and-l _ _ h)
 
 -- the items of one queue are among those of all
 items-in : (l : List Queue) (n : ℕ) → length (queueOf l n .items) ≤ itemsIn l
@@ -129,7 +113,7 @@ module _ (L : Limits) (F : Fit L) where
     small-delete = small (omega (arith, items-few L l n h, F .slots))
 
   -- ---- the rows
-  module _ (s : State) (h : sound L s ≡ true) (r : List ℕ) where
+  module _ (s : State) (h : StateSound L s) (r : List ℕ) where
     abbrev SmallRow : ℕ → Row → Type 0
     SmallRow n w = Small (w .plans L s r .effect .number) (w .plans L s r .effect .bytes)
 
@@ -141,18 +125,18 @@ module _ (L : Limits) (F : Fit L) where
     small-rows =
         none
         ▹ none
-        ▹ small-advance (s .interval) (sound-interval L s h) (operand 0 4 r)
-        ▹ small-ask (s .interval) (sound-interval L s h)
-        ▹ small-dispatch (s .interval) (sound-interval L s h)
+        ▹ small-advance (s .interval) (h .interval) (operand 0 4 r)
+        ▹ small-ask (s .interval) (h .interval)
+        ▹ small-dispatch (s .interval) (h .interval)
         ▹ none
         ▹ none
-        ▹ small-retrieve (s .interval) (sound-interval L s h) (issuer r) (operand 0 1 r)
+        ▹ small-retrieve (s .interval) (h .interval) (issuer r) (operand 0 1 r)
         ▹ none
-        ▹ small-append (s .queues) (sound-queues L s h) (operand 0 8 r) (rest 8 r)
-        ▹ small-reading (s .queues) (sound-queues L s h) (operand 0 8 r) (queueOf (s .queues) (operand 0 8 r) .pointer + 1) (operand 8 1 r)
-        ▹ small-reading (s .queues) (sound-queues L s h) (operand 0 8 r) (operand 8 2 r) (operand 10 1 r)
+        ▹ small-append (s .queues) (h .queues) (operand 0 8 r) (rest 8 r)
+        ▹ small-reading (s .queues) (h .queues) (operand 0 8 r) (queueOf (s .queues) (operand 0 8 r) .pointer + 1) (operand 8 1 r)
+        ▹ small-reading (s .queues) (h .queues) (operand 0 8 r) (operand 8 2 r) (operand 10 1 r)
         ▹ none
-        ▹ small-delete (s .queues) (sound-queues L s h) (operand 0 8 r)
+        ▹ small-delete (s .queues) (h .queues) (operand 0 8 r)
         ▹ none
         ▹ none
         ▹ none
@@ -182,8 +166,8 @@ module _ (L : Limits) (F : Fit L) where
     written-settle : (o : Outcome State) → Small (o .number) (o .bytes) → (n : ℕ) → Written (settle s n o .answer)
     written-settle o k n =
         let x : Setting = decides (s .tasks) n (o .condition) in
-        pick-elim (λ (t : Turn). Written (t .answer)) (eqb (o .condition) normal || eqb n (blank 8)) (settled o n Ignore) (settled o n x)
-        (λ _. written-settled o k n Ignore refl) (λ _. written-settled o k n x (decides-sound (s .tasks) n (o .condition) (sound-tasks L s h)))
+        settle-is (λ (t : Turn). Written (t .answer)) s n o (written-settled o k n Ignore refl)
+        (written-settled o k n x (decides-sound (s .tasks) n (o .condition) (h .tasks)))
 
     written-heard : formed r ≡ true → allowed s r ≡ true → Written (step L s r .answer)
     written-heard e f = rw (step-heard L s r e f) (written-settle (obeyed L s r) small-obeyed (issuer r))
@@ -205,5 +189,5 @@ module _ (L : Limits) (F : Fit L) where
 
 pub step-proper : (L : Limits) (s : State) (r : List ℕ) → Fit L → sound L s ≡ true → isBytes r ≡ true → Proper (step L s r .answer)
 step-proper L s r F h _ =
-    turn-is L s r (λ (x : Turn). Proper (x .answer)) (proper-heard L F s h r)
+    turn-is L s r (λ (x : Turn). Proper (x .answer)) (proper-heard L F s (view L s h) r)
     (proper-plain 34 (omega arith) (omega arith)) (proper-plain 33 (omega arith) (omega arith))
