@@ -9,3 +9,4 @@ pub mod Lists
 pub mod Demands
 pub mod Examples
 pub mod Laws
+pub mod Guards

@@ -1,0 +1,4 @@
+pub mod Typed
+pub mod RowSound
+pub mod Coded
+pub mod Clauses

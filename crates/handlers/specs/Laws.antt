@@ -1,0 +1,6 @@
+pub mod Lists
+pub mod Standing
+pub mod Set
+pub mod Decide
+pub mod Forget
+pub mod Every

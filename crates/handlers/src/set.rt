@@ -1,0 +1,86 @@
+// Handle, ignore, reset: a setting of a task is made.
+ghost use mathlib.Core.Path.{_≡_};
+ghost use mathlib.Core.Bool.{true};
+ghost use Prim.Native.Nat.{max};
+ghost use lib.Dec.{ltb};
+ghost use Rattle.model.specs.Handlers as model;
+ghost use Rattle.handlers.specs.Table.{tasksOf, soundH};
+ghost use Rattle.handlers.specs.Set.{setTo, handleIn, ignoreIn, resetIn, room, Done};
+use crate::Cell;
+use crate::Setting;
+use crate::Tasks;
+use crate::answers::Handled;
+use crate::answers::Outcome;
+use crate::rows;
+
+// The last condition that has a setting.
+const LAST: u8 = 10;
+
+fn wide(x: u8) -> usize
+    ensures { λ r. ⌜ r ≡ x ⌝ }
+{
+    x as usize
+}
+
+fn most(a: usize, b: usize) -> usize
+    ensures { λ r. ⌜ r ≡ max a b ⌝ }
+{
+    if a <= b { b } else { a }
+}
+
+// All three. A task that has no row gets one behind the others. Where it has none and 16 are in use nothing changes: this does not arise, since a
+// row is an active task's and at most 16 tasks are active, as each has a program of its own.
+fn set_to(t: Tasks, name: u64, condition: u8, setting: Setting) -> Handled
+    ensures { λ r. ⌜ r ≡ setTo (ltb 10 condition) t name condition setting ⌝ }
+{
+    if condition > LAST {
+        return Handled {
+            tasks: t,
+            outcome: Outcome::Invalid,
+        };
+    }
+    let f = rows::find(t, name);
+    let i = f.at;
+    let mut u = t;
+    if i < 16 {
+        let c = wide(condition);
+        let mut v = f.task;
+        v.cells[c] = Cell { setting };
+        u.rows[i] = v;
+        u.count = most(t.count, i + 1);
+    }
+    Handled {
+        tasks: u,
+        outcome: Outcome::Done,
+    }
+}
+
+// "10 condition above 10 or label 0"
+pub fn handle(t: Tasks, name: u64, condition: u8, label: u16) -> Handled
+    ensures exact { λ r. ⌜ r ≡ handleIn t name condition label ⌝ }
+    ensures model { λ r. ⌜ (soundH t ≡ true → room t name ≡ true → Done t r (model.handle (tasksOf t) name condition label)) ⌝ }
+{
+    if label == 0 {
+        return Handled {
+            tasks: t,
+            outcome: Outcome::Invalid,
+        };
+    }
+    set_to(t, name, condition, Setting::Label(label))
+}
+
+// "10 condition above 10"
+pub fn ignore(t: Tasks, name: u64, condition: u8) -> Handled
+    ensures exact { λ r. ⌜ r ≡ ignoreIn t name condition ⌝ }
+    ensures model { λ r. ⌜ (soundH t ≡ true → room t name ≡ true → Done t r (model.ignore (tasksOf t) name condition)) ⌝ }
+{
+    set_to(t, name, condition, Setting::Ignore)
+}
+
+// "10 condition above 10"
+pub fn reset(t: Tasks, name: u64, condition: u8) -> Handled
+    ensures exact { λ r. ⌜ r ≡ resetIn t name condition ⌝ }
+    ensures model { λ r. ⌜ (soundH t ≡ true → room t name ≡ true → Done t r (model.reset (tasksOf t) name condition)) ⌝ }
+{
+    set_to(t, name, condition, Setting::Unset)
+}

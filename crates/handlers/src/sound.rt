@@ -1,0 +1,99 @@
+// Are the settings sound: "handler labels are not 0", and a task has one row.
+ghost use mathlib.Core.Path.{_≡_};
+ghost use lib.ListN.{take, drop};
+ghost use Rattle.base.specs.Lists.{has, all};
+ghost use Rattle.base.specs.Lists as lists;
+ghost use Rattle.model.specs.Handlers as model;
+ghost use Rattle.handlers.specs.Table.{settingOf, live, soundH};
+ghost use Rattle.handlers.specs.Rows.{soundRow};
+use crate::Setting;
+use crate::Task;
+use crate::Tasks;
+use crate::names;
+use crate::rows;
+
+// Whether x is among the first n, from a place on.
+fn later(l: &[u64], from: usize, n: usize, x: u64) -> bool
+    ensures { λ r. ⌜ r ≡ has x (drop from (take n (now (l .entry)))) ⌝ }
+{
+    let m = rows::least(n, l.len());
+    let mut i = from;
+    while i < m {
+        if l[i] == x {
+            return true;
+        }
+        i += 1;
+    }
+    false
+}
+
+// Whether none of the first n stands twice.
+fn once(l: &[u64], n: usize) -> bool
+    ensures { λ r. ⌜ r ≡ lists.once (take n (now (l .entry))) ⌝ }
+{
+    let m = rows::least(n, l.len());
+    let mut i: usize = 0;
+    while i < m {
+        if later(l, i + 1, n, l[i]) {
+            return false;
+        }
+        i += 1;
+    }
+    true
+}
+
+// "a label 1..65535"
+fn labelled(s: Setting) -> bool
+    ensures { λ r. ⌜ r ≡ model.soundSetting (settingOf s) ⌝ }
+{
+    match s {
+        Setting::Unset => true,
+        Setting::Ignore => true,
+        Setting::Label(n) => n >= 1,
+    }
+}
+
+fn row_sound(v: Task) -> bool
+    ensures { λ r. ⌜ r ≡ soundRow v ⌝ }
+{
+    let mut i: usize = 0;
+    while i < 11 {
+        let e = v.cells[i];
+        let s = e.setting;
+        if labelled(s) {
+            i += 1;
+        } else {
+            return false;
+        }
+    }
+    true
+}
+
+fn rows_sound(t: Tasks) -> bool
+    ensures { λ r. ⌜ r ≡ all soundRow (live t) ⌝ }
+{
+    let m = rows::least(t.count, 16);
+    let mut i: usize = 0;
+    while i < m {
+        let v = t.rows[i];
+        if row_sound(v) {
+            i += 1;
+        } else {
+            return false;
+        }
+    }
+    true
+}
+
+pub fn sound(t: Tasks) -> bool
+    ensures exact { λ r. ⌜ r ≡ soundH t ⌝ }
+{
+    if t.count > 16 {
+        return false;
+    }
+    let n = names::names(t);
+    if once(&n.list, n.count) {
+        return rows_sound(t);
+    }
+    false
+}
