@@ -174,7 +174,7 @@ ticking =
     ∷ talkAt 0xFFFFFFF0 (map (λ k. defines k ⇒ ok 0) (count 4 1) ++ starts 9 1 5 ⇒ ok 0 ∷ starts 8 2 6 ⇒ ok 0 ∷ ticks 6 ⇒ ok 2
     ∷ replicate 5 (ticks 1_000_000_000 ⇒ ok 0) ++ starts 1 3 1 ⇒ ok 0 ∷ ticks 1 ⇒ ok 1 ∷ starts 2 4 0 ⇒ ok 0 ∷ asks ⇒ ok 705_032_695
     ∷ dispatches ⇒ goes 0 9 1 none ∷ dispatches ⇒ goes 0 8 2 none ∷ dispatches ⇒ goes 0 1 3 none ∷ dispatches ⇒ goes 0 2 4 none ∷ [])
-    -- the same through three, past half of the circle, with one that is waiting
+    -- "stays in that order however long it waits": past half of the circle, beside one that is waiting
     ∷ talk (map (λ k. defines k ⇒ ok 0) (count 2 1) ++ starts 9 1 5 ⇒ ok 0 ∷ ticks 5 ⇒ ok 1 ∷ replicate 3 (ticks 1_000_000_000 ⇒ ok 0)
     ++ starts 1 2 1 ⇒ ok 0 ∷ dispatches ⇒ goes 0 9 1 none ∷ dispatches ⇒ plain 8 ∷ ticks 1 ⇒ ok 1 ∷ dispatches ⇒ goes 0 1 2 none ∷ [])
     ∷ []
@@ -198,7 +198,7 @@ dispatching =
     ∷ talk (map (λ k. defines k ⇒ ok 0) (count 3 1) ++ starts 9 1 3 ⇒ ok 0 ∷ starts 8 2 3 ⇒ ok 0 ∷ cancels 9 ⇒ ok 0 ∷ starts 7 3 3 ⇒ ok 0
     ∷ ticks 3 ⇒ ok 2
     ∷ dispatches ⇒ goes 0 8 2 none ∷ dispatches ⇒ goes 0 7 3 none ∷ [])
-    -- and a name is used again, at once expired or not
+    -- "Treating the line as sorted by name or slot after a name is used again": a name is used again, at once expired or not
     ∷ talk (map (λ k. defines k ⇒ ok 0) (count 2 1) ++ starts 3 1 3 ⇒ ok 0 ∷ starts 4 2 3 ⇒ ok 0 ∷ cancels 3 ⇒ ok 0 ∷ starts 3 1 3 ⇒ ok 0
     ∷ ticks 3 ⇒ ok 2
     ∷ cancels 4 ⇒ ok 0 ∷ starts 4 2 0 ⇒ ok 0 ∷ dispatches ⇒ goes 0 3 1 none ∷ dispatches ⇒ goes 0 4 2 none ∷ [])
@@ -218,7 +218,7 @@ dispatching =
     ∷ dispatches ⇒ goes 0 2 2 (screen 1) ∷ dispatches ⇒ goes 0 3 1 (screen 2) ∷ [])
     -- "a blank terminal means none": none is held by no task
     ∷ talk (tasked ++ defines 2 ⇒ ok 0 ∷ starts 6 2 0 ⇒ ok 0 ∷ dispatches ⇒ goes 0 6 2 none ∷ [])
-    -- and a terminal below none in name is a terminal, unknown or held
+    -- "A name of spaces only (hex 20) is blank.": a terminal below it in name is a terminal, unknown or held
     ∷ talk (defines 1 ⇒ ok 0 ∷ defines 2 ⇒ ok 0 ∷ begins 1 1 low4 0 [] ⇒ plain 6 ∷ by system 2 low4 ⇒ ok 0 ∷ begins 1 1 low4 0 [] ⇒ ok 0
     ∷ begins 2 2 low4 0 [] ⇒ ok 0
     ∷ dispatches ⇒ goes 0 1 1 low4 ∷ dispatches ⇒ ans 8 0 0 1 [] ∷ [])
@@ -301,7 +301,7 @@ cancelling =
     -- "cancel: request 8"
     ∷ talk (defines 1 ⇒ ok 0 ∷ startsAs eight ⇒ ok 0 ∷ by system 7 eightFirst ⇒ plain 8 ∷ by system 7 eightLast ⇒ plain 8 ∷ by system 7 eight ⇒ ok 0
     ∷ [])
-    -- a task may cancel
+    -- "cancel: request 8" has no "(sys)": a task may
     ∷ talk (tasked ++ starts 6 1 9 ⇒ ok 0 ∷ by (long 5) 7 (long 6) ⇒ ok 0 ∷ by (long 5) 7 system ⇒ abends 10 ∷ [])
     ∷ []
 
@@ -335,7 +335,7 @@ retrieving =
     ∷ retrieves 5 9 ⇒ gives 1 (6 ∷ []) ∷ [])
     -- "A short room cuts as for queues, and the data counts as taken."
     ∷ talk (served ++ retrieves 5 2 ⇒ ans 4 0 0 3 (1 ∷ 2 ∷ []) ∷ retrieves 5 9 ⇒ plain 9 ∷ [])
-    -- a room of 0, and one that is just enough
+    -- "A short room cuts as for queues": a room of 0, and one that is just enough
     ∷ talk (served ++ begins 6 1 (screen 1) 0 (8 ∷ 9 ∷ []) ⇒ ok 0 ∷ retrieves 5 0 ⇒ ans 4 0 0 3 [] ∷ retrieves 5 2 ⇒ gives 2 (8 ∷ 9 ∷ []) ∷ [])
     -- "9, then 4": with nothing to give the room does not matter
     ∷ talk (calm ++ retrieves 5 0 ⇒ plain 9 ∷ [])
@@ -350,7 +350,7 @@ retrieving =
     ∷ retrieves 5 9 ⇒ abends 9 ∷ [])
     -- "retrieve: room 1 (task)", "finish (task)": the system gets 10
     ∷ talk (by system 8 (9 ∷ []) ⇒ plain 10 ∷ by system 9 [] ⇒ plain 10 ∷ [])
-    -- what a retrieve removes serves again
+    -- "that request is removed", and another may be started in its stead
     ∷ talk (tasked ++ begins 6 1 none 0 (7 ∷ []) ⇒ ok 0 ∷ map (λ k. starts k 1 9 ⇒ ok 0) (count 30 7) ++ starts 99 1 9 ⇒ plain 1
     ∷ retrieves 5 9 ⇒ gives 1 (7 ∷ []) ∷ starts 99 1 9 ⇒ ok 0 ∷ starts 6 1 9 ⇒ plain 1 ∷ [])
     -- "Finish removes the task, its settings and its data.", and no other task
@@ -428,7 +428,7 @@ queueing =
     -- "item length | 1..64 bytes", each byte kept
     ∷ talk (appends 1 (count 64 100) ⇒ ok 1 ∷ nextOf 1 64 ⇒ gives 64 (count 64 100) ∷ itemOf 1 1 63 ⇒ ans 4 0 0 64 (count 63 100)
     ∷ itemOf 1 1 255 ⇒ gives 64 (count 64 100) ∷ [])
-    -- a task may use queues, the system's too
+    -- "append: queue 8, rest item", and so on, without "(sys)" or "(task)": a task may, and finds the queues of others
     ∷ talk (tasked ++ by (long 5) 10 (long 1 ++ 7 ∷ []) ⇒ ok 1 ∷ appends 1 (8 ∷ []) ⇒ ok 2 ∷ by (long 5) 11 (long 1 ++ 9 ∷ []) ⇒ gives 1 (7 ∷ [])
     ∷ nextOf 1 9 ⇒ gives 1 (8 ∷ []) ∷ by (long 5) 12 (long 1 ++ 0 ∷ 1 ∷ 9 ∷ []) ⇒ gives 1 (7 ∷ [])
     ∷ by (long 5) 13 (long 1 ++ 0 ∷ 1 ∷ 9 ∷ []) ⇒ ok 0 ∷ by (long 5) 14 (long 1) ⇒ ok 2 ∷ [])
@@ -481,10 +481,10 @@ handling =
     -- "if that is unset too, abend"; "Abend removes the task as finish does"
     ∷ talk (stocked ++ handles 5 0 7 ⇒ ok 0 ∷ resets 5 0 ⇒ ok 0 ∷ astray 5 ⇒ abends 3 ∷ astray 5 ⇒ plain 34 ∷ starts 5 1 0 ⇒ ok 0
     ∷ dispatches ⇒ goes 0 5 1 none ∷ astray 5 ⇒ abends 3 ∷ [])
-    -- reset of one leaves the others
+    -- "Each task has a setting for conditions 0..10": reset of one leaves the others
     ∷ talk (stocked ++ handles 5 3 7 ⇒ ok 0 ∷ handles 5 2 8 ⇒ ok 0 ∷ resets 5 0 ⇒ ok 0 ∷ resets 5 4 ⇒ ok 0 ∷ astray 5 ⇒ labelled 3 7
     ∷ resets 5 2 ⇒ ok 0 ∷ astray 5 ⇒ labelled 3 7 ∷ resets 5 3 ⇒ ok 0 ∷ astray 5 ⇒ abends 3 ∷ [])
-    -- a later setting takes the place of an earlier
+    -- "unset, ignore, or a label 1..65535": a later setting takes the place of an earlier
     ∷ talk (stocked ++ handles 5 3 7 ⇒ ok 0 ∷ handles 5 3 8 ⇒ ok 0 ∷ astray 5 ⇒ labelled 3 8 ∷ ignores 5 3 ⇒ ok 0 ∷ astray 5 ⇒ plain 3
     ∷ handles 5 3 9 ⇒ ok 0 ∷ astray 5 ⇒ labelled 3 9 ∷ [])
     -- "a label 1..65535", "10 .. label 0": which sets nothing
@@ -506,10 +506,10 @@ handling =
     -- "All are unset at dispatch": settings go with the task, at a finish
     ∷ talk (stocked ++ handles 5 3 7 ⇒ ok 0 ∷ ignores 5 0 ⇒ ok 0 ∷ finishes 5 ⇒ ok 0 ∷ starts 5 1 0 ⇒ ok 0 ∷ dispatches ⇒ goes 0 5 1 none
     ∷ astray 5 ⇒ abends 3 ∷ [])
-    -- and at an abend
+    -- "All are unset at dispatch": and at an abend
     ∷ talk (stocked ++ handles 5 3 7 ⇒ ok 0 ∷ by (long 5) 14 system ⇒ abends 10 ∷ starts 5 1 0 ⇒ ok 0 ∷ dispatches ⇒ goes 0 5 1 none
     ∷ astray 5 ⇒ abends 3 ∷ [])
-    -- condition 0 does not arise: a general label leaves action 0
+    -- "When condition c of 1..10 arises": 0 is none of them, so that a general label leaves action 0
     ∷ talk (stocked ++ handles 5 0 7 ⇒ ok 0 ∷ by (long 5) 4 [] ⇒ ok 0 ∷ by (long 5) 11 (long 1 ++ 9 ∷ []) ⇒ gives 3 (1 ∷ 2 ∷ 3 ∷ [])
     ∷ finishes 5 ⇒ ok 0 ∷ [])
     -- "For the system the action is always 0.", whatever tasks have set
@@ -522,10 +522,10 @@ handling =
     -- "Abend removes the task as finish does, besides anything the command itself did.": the pointer has moved
     ∷ talk (stocked ++ by (long 5) 11 (long 1 ++ 2 ∷ []) ⇒ ans 4 2 0 3 (1 ∷ 2 ∷ []) ∷ by (long 5) 4 [] ⇒ plain 34 ∷ nextOf 1 9 ⇒ gives 1 (4 ∷ [])
     ∷ [])
-    -- the data of the line is taken
+    -- "besides anything the command itself did": the data of the line is taken
     ∷ talk (tasked ++ begins 6 1 none 0 (7 ∷ 8 ∷ []) ⇒ ok 0 ∷ retrieves 5 1 ⇒ ans 4 2 0 2 (7 ∷ []) ∷ cancels 6 ⇒ plain 8 ∷ cancels 5 ⇒ plain 8
     ∷ dispatches ⇒ plain 8 ∷ [])
-    -- the task's own data goes with it, and to a label it is taken
+    -- "and the data counts as taken", also where the condition goes to a label
     ∷ talk (defines 1 ⇒ ok 0 ∷ begins 5 1 none 0 (7 ∷ 8 ∷ []) ⇒ ok 0 ∷ dispatches ⇒ goes 0 5 1 none ∷ handles 5 4 9 ⇒ ok 0
     ∷ retrieves 5 1 ⇒ ans 4 1 9 2 (7 ∷ []) ∷ retrieves 5 9 ⇒ abends 9 ∷ [])
     ∷ []
@@ -542,11 +542,11 @@ forming =
     talk (sized 1 3 ⇒ plain 33 ∷ sized 2 3 ⇒ plain 33 ∷ sized 3 3 ⇒ plain 33 ∷ sized 6 19 ⇒ plain 33 ∷ sized 7 7 ⇒ plain 33 ∷ sized 8 0 ⇒ plain 33
     ∷ sized 10 7 ⇒ plain 33 ∷ sized 11 8 ⇒ plain 33 ∷ sized 12 10 ⇒ plain 33 ∷ sized 13 9 ⇒ plain 33
     ∷ sized 14 7 ⇒ plain 33 ∷ sized 15 2 ⇒ plain 33 ∷ sized 16 0 ⇒ plain 33 ∷ sized 17 0 ⇒ plain 33 ∷ [])
-    -- one byte too many, where no rest may stand
+    -- "operands not of the size below": one byte too many, where no rest may stand
     ∷ talk (sized 1 5 ⇒ plain 33 ∷ sized 2 5 ⇒ plain 33 ∷ sized 3 5 ⇒ plain 33 ∷ sized 4 1 ⇒ plain 33 ∷ sized 5 1 ⇒ plain 33 ∷ sized 7 9 ⇒ plain 33
     ∷ sized 8 2 ⇒ plain 33 ∷ sized 9 1 ⇒ plain 33 ∷ sized 11 10 ⇒ plain 33 ∷ sized 12 12 ⇒ plain 33
     ∷ sized 14 9 ⇒ plain 33 ∷ sized 15 4 ⇒ plain 33 ∷ sized 16 2 ⇒ plain 33 ∷ sized 17 2 ⇒ plain 33 ∷ [])
-    -- "Rest is every byte left": none, and more than there is use for
+    -- "is every byte left": the rest may be none, and more than there is use for
     ∷ talk (sized 6 20 ⇒ plain 10 ∷ sized 10 8 ⇒ plain 4 ∷ sized 13 10 ⇒ plain 4 ∷ defines 1 ⇒ ok 0 ∷ begins 6 1 none 0 (replicate 300 7) ⇒ plain 4
     ∷ sized 10 300 ⇒ plain 4 ∷ sized 13 300 ⇒ plain 4 ∷ [])
     -- "command not 1..17"
@@ -563,7 +563,7 @@ forming =
     ∷ talk (defines 1 ⇒ ok 0 ∷ by system 6 (eight ++ short 1 ++ none ++ bytesOf 4 0) ⇒ ok 0 ∷ dispatches ⇒ gives 0 (eight ++ short 1 ++ none)
     ∷ by eightFirst 4 [] ⇒ plain 34 ∷ by eightLast 4 [] ⇒ plain 34 ∷ by (replicate 7 0x20 ++ 0x21 ∷ []) 4 [] ⇒ plain 34
     ∷ by low8 4 [] ⇒ plain 34 ∷ by eight 4 [] ⇒ ok 0 ∷ [])
-    -- a task whose name is below the blank one is a task all the same
+    -- "A name of spaces only (hex 20) is blank.": a task whose name is below it is a task all the same
     ∷ talk (defines 1 ⇒ ok 0 ∷ by system 6 (low8 ++ short 1 ++ none ++ bytesOf 4 0) ⇒ ok 0 ∷ dispatches ⇒ gives 0 (low8 ++ short 1 ++ none)
     ∷ by low8 4 [] ⇒ ok 0
     ∷ by low8 15 (10 ∷ 0 ∷ 7 ∷ []) ⇒ ok 0 ∷ by low8 1 (short 2) ⇒ labelled 10 7 ∷ by low8 17 (10 ∷ []) ⇒ ok 0 ∷ by low8 1 (short 2) ⇒ abends 10

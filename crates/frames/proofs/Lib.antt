@@ -1,0 +1,4 @@
+pub mod Counted
+pub mod Puts
+pub mod Lent
+pub mod Worked

@@ -1,0 +1,12 @@
+pub mod Scans
+pub mod FreshLaws
+pub mod GrownLaws
+pub mod PutLaws
+pub mod AppendLaws
+pub mod AppendCases
+pub mod SweepLaws
+pub mod ShutLaws
+pub mod ClearLaws
+pub mod DeleteLists
+pub mod DeleteExact
+pub mod DeleteLaws

@@ -1,0 +1,234 @@
+-- `append` meets its contract: at each return the exact clause, from what its callees gave, and from it the model's. What the type says is
+-- proved where the function starts. Assumes nothing.
+use mathlib.Core.Path.{_≡_, sym, ap, _∙_}
+use mathlib.Core.Logic.{⊎-elim}
+use mathlib.Core.List.{List}
+use Prim.Native.Nat.{ℕ, _+_, _≤_, _<_}
+use native.Mathlib.Omega.{arith}
+use borrow.Author.Needs.{needs}
+use lib.ListN.{length}
+use Rattle.base.specs.Lists.{copies}
+use Rattle.slots.specs.Told.{Free}
+use Rattle.queues.specs.declared.Queues.{Queues}
+use Rattle.queues.specs.declared.append.Appending.{Appending}
+use Rattle.queues.specs.declared.append.Appending.the-variants.{Stored}
+use Rattle.queues.specs.Table.{owners}
+use Rattle.queues.specs.Append.{withQueue, put, stored, answer, faultOf}
+use Rattle.queues.specs.Laws.Typed.{Typed, word, byte}
+use Rattle.queues.proofs.AppendLaws.{append-both}
+use Rattle.queues.proofs.AppendCases.{Clear, row-known, row-new, way-row, append-fault, append-no-slot, append-stored, made-owner, made-slot, made-len, stores-put, few-copies}
+use Rattle.queues.proofs.append.append.Statement.{statement}
+use Rattle.queues.proofs.append.append.Tie as tie
+
+typed : (c : tie.Start) → Typed (c .args .t1)
+typed c = search (needs, word, byte)
+
+-- no check holds, and the row is below 16
+clear : (c : tie.After-w) →
+    let s = c .before .before .before .before .before .before .before .before in
+    Clear (s .args .t1) (s .args .name) (length (s .args .item .now)) (c .w .given .0 .0)
+clear c =
+    let d = c .before .before in
+    let a = d .before .before .before .before .before .before .args in
+    way-row (a .t1) (a .name) (length (a .item .now)) (c .w .given .0 .0) (sym (d .checks .ensures) ∙ c .w .given .1)
+
+-- the struct in which the name has a row
+joined : (c : tie.Joined1) →
+    let a = c .before .before .before .before .before .before .before .before .before .before .args in
+    c .if1 .t ≡ withQueue (a .t1) (a .name)
+joined c =
+    let w = c .before .before in
+    let s = w .before .before .before .before .before .before .before .before in
+    let a = s .args in
+    let l = clear w in
+    ⊎-elim
+    (λ v. v .1 ∙ row-new (a .t1) (typed s) (a .name) (w .w .given .0 .0) (l .found) (l .below) (v .0 .taken))
+    (λ v. v .1 ∙ row-known (a .t1) (typed s) (a .name) (w .w .given .0 .0) (l .found) (l .below) (v .0 .left))
+    (c .if1 .came)
+
+checks-requires : tie.Need-checks-requires
+checks-requires c κs = search needs
+
+enum-known-w : tie.Need-enum-known-w
+enum-known-w c = search needs
+
+enum-told : tie.Need-enum-told
+enum-told c = search needs
+
+fault-requires : tie.Need-fault-requires
+fault-requires c κs = search needs
+
+returns : tie.Need-returns
+returns c =
+    let e = c .before in
+    let d = e .before .before in
+    let b = d .before .before .before .before in
+    let s = b .before .before in
+    let a = s .args in
+    append-both (a .t1) (a .items .now) (a .may) (a .name) (a .item .now) _ _ (typed s) (word (s .fits .name)) (b .b .given .0 .1)
+    (ap (λ (o : Appending). answer (a .t1) (a .items .now) o) (c .fault .ensures ∙ ap faultOf (e .enum-told .given .1))
+    ∙ append-fault (a .t1) (typed s) (a .items .now) (a .may) (a .name) (a .item .now) _ (sym (d .checks .ensures) ∙ e .enum-told .given .1))
+
+mul-t : tie.Need-mul-t
+mul-t c = let l = clear (c .before .before) in search needs
+
+element-write-t : tie.Need-element-write-t
+element-write-t c = let l = clear (c .before .before) in search needs
+
+element-write-t-2 : tie.Need-element-write-t-2
+element-write-t-2 c = let l = clear (c .before .before) in search needs
+
+add-t : tie.Need-add-t
+add-t c = let l = clear (c .before .before) in search needs
+
+free-slot-requires : tie.Need-free-slot-requires
+free-slot-requires c κs = search needs
+
+enum-known-free : tie.Need-enum-known-free
+enum-known-free c = search needs
+
+enum-told-2 : tie.Need-enum-told-2
+enum-told-2 c = search needs
+
+returns-2 : tie.Need-returns-2
+returns-2 c =
+    let j = c .before .before .before .before in
+    let w = j .before .before in
+    let b = w .before .before .before .before .before .before in
+    let s = b .before .before in
+    let a = s .args in
+    append-both (a .t1) (a .items .now) (a .may) (a .name) (a .item .now) _ _ (typed s) (word (s .fits .name)) (b .b .given .0 .1)
+    (append-no-slot (a .t1) (typed s) (a .items .now) (a .may) (a .name) (a .item .now) (w .w .given .0 .0) (clear w) (j .if1 .t) (joined j)
+    (sym (c .before .before .free-slot .ensures .0) ∙ c .enum-told2 .given .1))
+
+-- what the stores ask: the entry and the slot are within the arrays, and the numbers fit
+record Within (e k copies size : ℕ) (x : Queues) : Type 0 where
+  entry : e < 128
+  slot : k < 128
+  few : copies ≤ 128
+  short : size ≤ 64
+  owner-long : length (x .owner) ≡ 128
+  slot-long : length (x .slot) ≡ 128
+  len-long : length (x .len) ≡ 128
+
+within : (c : tie.After-tally) →
+    let v = c .before .before .before .before .before .before in
+    let j = v .before .before .before .before in
+    let s = j .before .before .before .before .before .before .before .before .before .before in
+    Within (c .before .before .before .before .count .result) (v .free .given .0 .0) (c .tally .result) (length (s .args .item .now)) (j .if1 .t)
+within c =
+    let n = c .before .before .before .before .count in
+    let v = c .before .before .before .before .before .before in
+    let g = v .before .before in
+    let j = g .before .before in
+    let w = j .before .before in
+    let s = w .before .before .before .before .before .before .before .before in
+    let a = s .args in
+    let t = typed s in
+    let fr : Free (a .may) (a .t1 .used) (v .free .given .0 .0) = g .free-slot .ensures .1 .some (v .free .given .0 .0) (v .free .given .1) in
+    record {
+      entry = omega (arith, n .ensures, fr .room);
+      slot = fr .below;
+      few = omega (arith, c .tally .ensures, few-copies (a .name) (n .result) (a .t1 .owner), t .owner-long);
+      short = clear w .high;
+      owner-long = made-owner (a .t1) (a .name) (j .if1 .t) (joined j) t;
+      slot-long = made-slot (a .t1) (a .name) (j .if1 .t) (joined j) t;
+      len-long = made-len (a .t1) (a .name) (j .if1 .t) (joined j) t;
+    }
+
+count-requires : tie.Need-count-requires
+count-requires c κs = search needs
+
+tally-requires : tie.Need-tally-requires
+tally-requires c κs = search needs
+
+add-place : tie.Need-add-place
+add-place c = let w = within c in omega arith
+
+mul-t-2 : tie.Need-mul-t-2
+mul-t-2 c = let w = within c in omega arith
+
+element-write-t-3 : tie.Need-element-write-t-3
+element-write-t-3 c = let w = within c in omega arith
+
+cast-t : tie.Need-cast-t
+cast-t c = let w = within c in omega arith
+
+element-write-t-4 : tie.Need-element-write-t-4
+element-write-t-4 c = let w = within c in omega arith
+
+cast-t-2 : tie.Need-cast-t-2
+cast-t-2 c = let w = within c in omega arith
+
+element-write-t-5 : tie.Need-element-write-t-5
+element-write-t-5 c = let w = within c in omega arith
+
+mark-requires : tie.Need-mark-requires
+mark-requires c κs = search needs
+
+mul-store : tie.Need-mul-store
+mul-store c = let w = within (c .before) in omega arith
+
+store-requires : tie.Need-store-requires
+store-requires c κs =
+    let w = within (c .before) in
+    let v = c .before .before .before .before .before .before .before in
+    let j = v .before .before .before .before in
+    omega (arith, j .before .before .before .before .before .before .before .before .b .given .0 .1)
+
+cast-t45 : tie.Need-cast-t45
+cast-t45 c = let w = within (c .before .before) in omega arith
+
+returns-3 : tie.Need-returns-3
+unfolding stored
+returns-3 c =
+    let y = c .before .before in
+    let n = y .before .before .before .before .count in
+    let v = y .before .before .before .before .before .before in
+    let g = v .before .before in
+    let j = g .before .before in
+    let w = j .before .before in
+    let b = w .before .before .before .before .before .before in
+    let s = b .before .before in
+    let a = s .args in
+    let k : ℕ = v .free .given .0 .0 in
+    let new : Queues = put (withQueue (a .t1) (a .name)) (a .name) (length (a .item .now)) k in
+    let place : ℕ = copies (a .name) (owners (withQueue (a .t1) (a .name))) + 1 in
+    append-both (a .t1) (a .items .now) (a .may) (a .name) (a .item .now) _ _ (typed s) (word (s .fits .name)) (b .b .given .0 .1)
+    (stores-put (a .t1) (a .name) (j .if1 .t) (joined j) (length (a .item .now)) k (n .result) (y .tally .result)
+    (c .before .mark .result) (n .ensures) (y .tally .ensures) (c .before .mark .ensures .0) _
+    ∙ ap (λ (x : List ℕ). answer new x (Stored place)) (c .store .ensures)
+    ∙ append-stored (a .t1) (typed s) (a .items .now) (a .may) (a .name) (a .item .now) (w .w .given .0 .0) (clear w) k
+    (sym (g .free-slot .ensures .0) ∙ v .free .given .1))
+
+pub append-spec : {M : Type 1} → statement M
+append-spec =
+    tie.close
+    (tie.spec
+    checks-requires
+    enum-known-w
+    enum-told
+    fault-requires
+    returns
+    mul-t
+    element-write-t
+    element-write-t-2
+    add-t
+    free-slot-requires
+    enum-known-free
+    enum-told-2
+    returns-2
+    count-requires
+    tally-requires
+    add-place
+    mul-t-2
+    element-write-t-3
+    cast-t
+    element-write-t-4
+    cast-t-2
+    element-write-t-5
+    mark-requires
+    mul-store
+    store-requires
+    cast-t45
+    returns-3)

@@ -1,0 +1,146 @@
+-- `queues::delete::delete` meets its contract. The loop's invariant: the rows behind the queue's, up to row i, have moved down.
+-- Assumes nothing.
+use mathlib.Core.Path.{_≡_, ap, _∙_}
+use Prim.Native.Nat.{ℕ, _≤_, _<_, _-_, _+_}
+use native.Mathlib.Omega.{arith}
+use borrow.Author.Needs.{needs}
+use lib.ListN.{length}
+use Rattle.queues.specs.Laws.Typed.{Typed, word, byte}
+use Rattle.queues.proofs.DeleteLaws.{delete-both}
+use Rattle.queues.proofs.ShutLaws.{shutTo, shut-start, shut-step, shut-end}
+use Rattle.queues.proofs.DeleteExact.{exact-blank, exact-unknown, exact-freed}
+use Rattle.queues.proofs.delete.delete.Statement.{statement}
+use Rattle.queues.proofs.delete.delete.Tie as tie
+use Rattle.queues.proofs.delete.delete.Reads as reads
+use Rattle.queues.proofs.delete.delete.Lts as lts
+use Rattle.queues.proofs.delete.rows.Reads as rows-reads
+use Rattle.queues.proofs.delete.sweep.Reads as sweep-reads
+use Rattle.queues.proofs.find.find.Reads as find-reads
+
+abbrev Inv-loop : tie.InvT-loop
+Inv-loop name row m t₀ i₀ t i =
+    (row ≤ i) × (i < m) × (m ≤ 16) × (length (t₀ .names) ≡ 16) × (length (t₀ .pointers) ≡ 16) × (t ≡ shutTo t₀ row (i + 1))
+
+abbrev μ-loop : tie.MeasureT-loop
+μ-loop name row m t₀ i₀ t i = m - i
+
+-- what the struct's type says, from where the function starts
+typed :
+    (s : lts.Start (
+      find-reads.Asked,
+      find-reads.Learnt,
+      rows-reads.Asked,
+      rows-reads.Learnt,
+      sweep-reads.Asked,
+      sweep-reads.Learnt,
+    ) reads.Pre reads.Post Inv-loop μ-loop)
+    → Typed (s .args .t1)
+typed s = search (needs, word, byte)
+
+returns : tie.Need-returns Inv-loop μ-loop
+returns c =
+    let a = c .before .args in
+    let t = typed (c .before) in
+    delete-both (a .t1) (a .name) t _ t (exact-blank (a .t1) (a .name) (c .if1 .taken))
+
+find-requires : tie.Need-find-requires Inv-loop μ-loop
+find-requires c κs = search needs
+
+rows-requires : tie.Need-rows-requires Inv-loop μ-loop
+rows-requires c κs = search needs
+
+returns-2 : tie.Need-returns-2 Inv-loop μ-loop
+returns-2 c =
+    let a = c .before .before .before .before .before .before .before .args in
+    let t = typed (c .before .before .before .before .before .before .before) in
+    delete-both (a .t1) (a .name) t _ t
+    (exact-unknown (a .t1) (a .name) (t .names-long) (c .before .before .before .before .before .before .if1 .left) (omega arith))
+
+loop-holds : tie.Need-loop-holds Inv-loop μ-loop
+loop-holds c =
+    let a = c .before .before .before .before .before .before .before .args in
+    let n : length (a .t1 .names) ≡ 16 = search needs in
+    let p : length (a .t1 .pointers) ≡ 16 = search needs in
+    (omega arith, omega arith, omega arith, n, p, shut-start (a .t1) n p (c .before .before .find .result) (omega arith))
+
+add-loop : tie.Need-add-loop Inv-loop μ-loop
+add-loop c = search needs
+
+add-t : tie.Need-add-t Inv-loop μ-loop
+add-t c = search needs
+
+mul-t : tie.Need-mul-t Inv-loop μ-loop
+mul-t c = search needs
+
+element-copy-out-t : tie.Need-element-copy-out-t Inv-loop μ-loop
+element-copy-out-t c = search needs
+
+mul-t-2 : tie.Need-mul-t-2 Inv-loop μ-loop
+mul-t-2 c = search needs
+
+element-write-t : tie.Need-element-write-t Inv-loop μ-loop
+element-write-t c = search needs
+
+add-t-2 : tie.Need-add-t-2 Inv-loop μ-loop
+add-t-2 c = search needs
+
+element-copy-out-t-2 : tie.Need-element-copy-out-t-2 Inv-loop μ-loop
+element-copy-out-t-2 c = search needs
+
+element-write-t-2 : tie.Need-element-write-t-2 Inv-loop μ-loop
+element-write-t-2 c = search needs
+
+add-i : tie.Need-add-i Inv-loop μ-loop
+add-i c = search needs
+
+loop-less : tie.Need-loop-less Inv-loop μ-loop
+loop-less c = search needs
+
+loop-again : tie.Need-loop-again Inv-loop μ-loop
+loop-again c =
+    let a = c .before .before .before .before .before .before .before .before .before .before .before .args in
+    let l = c .before .before .before .loop in
+    let b = l .inv in
+    let r = c .before .before .before .before .before .before .find .result in
+    (omega arith, omega arith, b .2, b .3, b .4, shut-step (a .t1) (b .3) (b .4) r (l .i) (l .t) (b .0) (omega arith) (b .5))
+
+sweep-requires : tie.Need-sweep-requires Inv-loop μ-loop
+sweep-requires c κs = search needs
+
+returns-3 : tie.Need-returns-3 Inv-loop μ-loop
+returns-3 c =
+    let a = c .before .before .before .before .before .before .before .before .before .before .args in
+    let t = typed (c .before .before .before .before .before .before .before .before .before .before) in
+    let u : Typed (c .sweep .result .queues) = search (needs, word, byte) in
+    let row = c .before .before .before .before .before .find in
+    let l = c .before .before .loop in
+    let b = l .inv in
+    delete-both (a .t1) (a .name) t _ u
+    (exact-freed (a .t1) (a .name) (t .names-long) (c .before .before .before .before .before .before .before .before .before .if1 .left) _ _ (omega arith)
+    (shut-end (a .t1) (b .3) (b .4) (a .name) (l .i) (l .t) (b .5 ∙ ap (λ (k : ℕ). shutTo (a .t1) k (l .i + 1)) (row .ensures)) (omega arith)) (c .sweep .ensures))
+
+pub delete-spec : {M : Type 1} → statement M
+delete-spec =
+    tie.close
+    (tie.spec
+    Inv-loop
+    μ-loop
+    returns
+    find-requires
+    rows-requires
+    returns-2
+    loop-holds
+    add-loop
+    add-t
+    mul-t
+    element-copy-out-t
+    mul-t-2
+    element-write-t
+    add-t-2
+    element-copy-out-t-2
+    element-write-t-2
+    add-i
+    loop-less
+    loop-again
+    sweep-requires
+    returns-3)

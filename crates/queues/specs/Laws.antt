@@ -1,0 +1,4 @@
+pub mod Typed
+pub mod From
+pub mod Stands
+pub mod Paste

@@ -1,0 +1,92 @@
+// Delete queue (14): the queue's row goes and its items with it, and their slots are free again.
+ghost use mathlib.Core.Path.{_≡_};
+ghost use Prim.Native.Nat.{ℕ, min};
+ghost use mathlib.Core.Bool.{true};
+ghost use mathlib.Core.List.{List, []};
+ghost use Rattle.model.specs.Queues.{delete};
+ghost use Rattle.queues.specs.Model.{queuesOf};
+ghost use Rattle.queues.specs.Sound.{soundQ, Did};
+ghost use Rattle.queues.specs.Delete.{conditionOf, numberOf, swept, deleteFrom};
+use crate::Queues;
+use crate::find::find;
+
+pub enum Deleting {
+    Freed(u32),
+    UnknownQueue,
+    Invalid,
+}
+
+pub struct Deleted {
+    pub queues: Queues,
+    pub outcome: Deleting,
+}
+
+pub fn delete(q: Queues, name: u64) -> Deleted
+    ensures exact { λ r. ⌜ r ≡ deleteFrom q name ⌝ }
+    ensures model { λ r. ⌜ (soundQ q ≡ true → (b : List ℕ) → Did q b (r .queues) b (delete (queuesOf q b) name) (conditionOf (r .outcome)) (numberOf (r .outcome)) []) ⌝ }
+{
+    if name == 0x2020202020202020 {
+        return Deleted {
+            queues: q,
+            outcome: Deleting::Invalid,
+        };
+    }
+    let row = find(&q.names, q.count, name);
+    let m = rows(q.count);
+    if row >= m {
+        return Deleted {
+            queues: q,
+            outcome: Deleting::UnknownQueue,
+        };
+    }
+    let mut t = q;
+    let mut i: usize = row;
+    while i + 1 < m {
+        t.names[i] = t.names[i + 1];
+        t.pointers[i] = t.pointers[i + 1];
+        i += 1;
+    }
+    t.count = i;
+    sweep(t, name)
+}
+
+// The entries of the name go, and their slots are free; the later entries move down.
+fn sweep(q: Queues, name: u64) -> Deleted
+    ensures { λ r. ⌜ r ≡ swept q name ⌝ }
+{
+    let u = q.used;
+    let n = slots::count(u);
+    let mut t = q;
+    let mut i: usize = 0;
+    let mut j: usize = 0;
+    while i < n {
+        let o = t.owner[i];
+        let s = t.slot[i];
+        if o == name {
+            let v = t.used;
+            t.used = slots::clear(v, wide(s));
+        } else {
+            t.owner[j] = o;
+            t.slot[j] = s;
+            j += 1;
+        }
+        i += 1;
+    }
+    Deleted {
+        queues: t,
+        outcome: Deleting::Freed((n - j) as u32),
+    }
+}
+
+// How many rows a count tells of.
+fn rows(count: usize) -> usize
+    ensures { λ r. ⌜ r ≡ min count 16 ⌝ }
+{
+    if count <= 16 { count } else { 16 }
+}
+
+fn wide(x: u8) -> usize
+    ensures { λ r. ⌜ r ≡ x ⌝ }
+{
+    x as usize
+}
