@@ -214,7 +214,7 @@ LISTED = [
     ("model/Handlers", "orElse (getD (settingsOf l n) c Unset) (getD (settingsOf l n) 0 Unset)", "getD (settingsOf l n) c Unset"),
     ("model/Handlers", "settings = set (t .settings) c x }", "settings = set (t .settings) 0 x }"),
     ("model/Handlers", "settings = set (t .settings) c x }", "settings = set allUnset c x }"),
-    ("model/Handlers", "(done (setTo l n c Unset) 0)", "(done (forget l n) 0)"),
+    ("model/Handlers", "(done (setTo l n c Unset) 0)", "(done (keep (λ (t : Task). not (eqb (t .name) n)) l) 0)"),
     ("model/Handlers", "(done (setTo l n c (Label label)) 0)", "(done (setTo l n c (Label c)) 0)"),
     ("model/Handlers", "forget l n = keep (λ (t : Task). not (eqb (t .name) n)) l", "forget l n = []"),
     ("model/Handlers", "forget l n = keep (λ (t : Task). not (eqb (t .name) n)) l", "forget l n = l"),

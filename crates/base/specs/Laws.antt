@@ -6,3 +6,4 @@ pub mod Listed
 pub mod Sorting
 pub mod Bytes
 pub mod Over
+pub mod Scans

@@ -10,3 +10,8 @@ pub mod ClearLaws
 pub mod DeleteLists
 pub mod DeleteExact
 pub mod DeleteLaws
+pub mod SoundLaws
+pub mod PlaceLaws
+pub mod StandLaws
+pub mod ReadLaws
+pub mod RewriteLaws

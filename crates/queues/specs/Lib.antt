@@ -4,4 +4,7 @@ pub mod Sound
 pub mod Fresh
 pub mod Append
 pub mod Delete
+pub mod Place
+pub mod Read
+pub mod Rewrite
 pub mod Laws

@@ -4,6 +4,10 @@ pub mod bytes;
 pub mod delete;
 pub mod find;
 pub mod fresh;
+pub mod place;
+pub mod read;
+pub mod rewrite;
+pub mod sound;
 
 use slots::Used;
 
