@@ -1,0 +1,87 @@
+-- `row_of` meets its contract. An arm computes its row of the model's table; what none of them names has no row (`no-row`).
+-- Assumes nothing.
+use mathlib.Core.Path.{sym, ap}
+use borrow.Author.Needs.{needs}
+use Rattle.model.specs.Commands.{Row}
+use Rattle.records.specs.Laws.{no-row}
+use Rattle.records.proofs.row_of.Statement.{statement}
+use Rattle.records.proofs.row_of.Tie as tie
+
+returns : tie.Need-returns
+returns c = search needs
+
+returns-2 : tie.Need-returns-2
+returns-2 c = search needs
+
+returns-3 : tie.Need-returns-3
+returns-3 c = search needs
+
+returns-4 : tie.Need-returns-4
+returns-4 c = search needs
+
+returns-5 : tie.Need-returns-5
+returns-5 c = search needs
+
+returns-6 : tie.Need-returns-6
+returns-6 c = search needs
+
+returns-7 : tie.Need-returns-7
+returns-7 c = search needs
+
+returns-8 : tie.Need-returns-8
+returns-8 c = search needs
+
+returns-9 : tie.Need-returns-9
+returns-9 c = search needs
+
+returns-10 : tie.Need-returns-10
+returns-10 c = search needs
+
+returns-11 : tie.Need-returns-11
+returns-11 c = search needs
+
+returns-12 : tie.Need-returns-12
+returns-12 c = search needs
+
+returns-13 : tie.Need-returns-13
+returns-13 c = search needs
+
+returns-14 : tie.Need-returns-14
+returns-14 c = search needs
+
+returns-15 : tie.Need-returns-15
+returns-15 c = search needs
+
+returns-16 : tie.Need-returns-16
+returns-16 c = search needs
+
+returns-17 : tie.Need-returns-17
+returns-17 c = search needs
+
+returns-18 : tie.Need-returns-18
+returns-18 c =
+    let e = no-row (c .before .args .command) (c .match .rest) in
+    (ap (λ (r : Row). r .size) (sym e), ap (λ (r : Row). r .who) (sym e))
+
+pub row-of-spec : {M : Type 1} → statement M
+row-of-spec =
+    tie.close
+    (tie.spec
+    returns
+    returns-2
+    returns-3
+    returns-4
+    returns-5
+    returns-6
+    returns-7
+    returns-8
+    returns-9
+    returns-10
+    returns-11
+    returns-12
+    returns-13
+    returns-14
+    returns-15
+    returns-16
+    returns-17
+    returns-18)
