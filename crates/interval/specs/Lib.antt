@@ -1,0 +1,17 @@
+pub mod Circle
+pub mod Table
+pub mod Stands
+pub mod Rows
+pub mod Remove
+pub mod Cancel
+pub mod Define
+pub mod Active
+pub mod Fresh
+pub mod Start
+pub mod Dispatch
+pub mod Retrieve
+pub mod ListLaws
+pub mod Laws
+pub mod Advance
+pub mod Ranks
+pub mod AdvanceExamples

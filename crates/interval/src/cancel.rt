@@ -1,0 +1,46 @@
+// Cancel.
+ghost use mathlib.Core.Path.{_≡_};
+ghost use mathlib.Core.Bool.{true};
+ghost use mathlib.Core.List.{[]};
+ghost use Prim.Native.Nat.{ℕ};
+ghost use Rattle.model.specs.Interval as model;
+ghost use Rattle.interval.specs.Stands.{Means, soundR, intervalAt, Done};
+ghost use Rattle.interval.specs.Cancel.{cancelIn, cancelGives};
+use crate::Requests;
+use crate::answers::Cancel;
+use crate::answers::Cancelled;
+use crate::rows;
+
+// "Cancel removes a waiting or expired request. An active one gets 8."
+pub fn cancel(t: Requests, name: u64) -> Cancelled
+    ensures exact { λ r. ⌜ r ≡ cancelIn t name ⌝ }
+    ensures model { λ r. ⌜ ((c : ℕ) → Means t c → soundR t ≡ true → Done c c t (r .requests) (model.cancel (intervalAt c t) name) (cancelGives (r .outcome)) 0 []) ⌝ }
+{
+    if name == rows::BLANK {
+        return Cancelled {
+            requests: t,
+            outcome: Cancel::Invalid,
+        };
+    }
+    let i = rows::place(t, name);
+    let m = rows::least(t.count, 32);
+    if m <= i {
+        return Cancelled {
+            requests: t,
+            outcome: Cancel::NotFound,
+        };
+    }
+    let q = t.rows[i];
+    let p = q.phase;
+    if rows::active(p) {
+        return Cancelled {
+            requests: t,
+            outcome: Cancel::NotFound,
+        };
+    }
+    let u = rows::close(t, i);
+    Cancelled {
+        requests: u,
+        outcome: Cancel::Done,
+    }
+}

@@ -1,0 +1,74 @@
+// Define program, define terminal.
+ghost use mathlib.Core.Path.{_≡_};
+ghost use mathlib.Core.Bool.{true};
+ghost use mathlib.Core.List.{[]};
+ghost use Prim.Native.Nat.{ℕ};
+ghost use lib.ListN.{length, take};
+ghost use Rattle.model.specs.Limits.{cabinet};
+ghost use Rattle.model.specs.Interval as model;
+ghost use Rattle.interval.specs.Stands.{Means, soundR, intervalAt, Done};
+ghost use Rattle.interval.specs.Define.{ruling, defineProgram, defineTerminal, defineGives};
+use crate::Requests;
+use crate::answers::Define;
+use crate::answers::Defined;
+use crate::rows;
+
+// What a new name comes to, behind the first `count`.
+fn rule(names: &[u32], count: usize, name: u32) -> Define
+    ensures { λ r. ⌜ r ≡ ruling (length (now (names .entry))) (take count (now (names .entry))) name ⌝ }
+{
+    if name == rows::NONE {
+        return Define::Invalid;
+    }
+    if rows::known(names, count, name) {
+        return Define::NotUnique;
+    }
+    if count >= names.len() {
+        return Define::NoSpace;
+    }
+    Define::Done
+}
+
+pub fn define_program(t: Requests, name: u32) -> Defined
+    ensures exact { λ r. ⌜ r ≡ defineProgram t name ⌝ }
+    ensures model { λ r. ⌜ ((c : ℕ) → Means t c → soundR t ≡ true → Done c c t (r .requests) (model.defineProgram cabinet (intervalAt c t) name) (defineGives (r .outcome)) 0 []) ⌝ }
+{
+    let o = rule(&t.programs, t.pcount, name);
+    let mut u = t;
+    match o {
+        Define::Done => {
+            let n = t.pcount;
+            u.programs[n] = name;
+            u.pcount = n + 1;
+        }
+        Define::Invalid => {}
+        Define::NotUnique => {}
+        Define::NoSpace => {}
+    }
+    Defined {
+        requests: u,
+        outcome: o,
+    }
+}
+
+pub fn define_terminal(t: Requests, name: u32) -> Defined
+    ensures exact { λ r. ⌜ r ≡ defineTerminal t name ⌝ }
+    ensures model { λ r. ⌜ ((c : ℕ) → Means t c → soundR t ≡ true → Done c c t (r .requests) (model.defineTerminal cabinet (intervalAt c t) name) (defineGives (r .outcome)) 0 []) ⌝ }
+{
+    let o = rule(&t.terminals, t.tcount, name);
+    let mut u = t;
+    match o {
+        Define::Done => {
+            let n = t.tcount;
+            u.terminals[n] = name;
+            u.tcount = n + 1;
+        }
+        Define::Invalid => {}
+        Define::NotUnique => {}
+        Define::NoSpace => {}
+    }
+    Defined {
+        requests: u,
+        outcome: o,
+    }
+}
