@@ -29,8 +29,8 @@ pub struct Requests {
     pub rows: [Request; 32],
 }
 
-pub mod advance;
 pub mod active;
+pub mod advance;
 pub mod answers;
 pub mod ask;
 pub mod cancel;
