@@ -1,7 +1,5 @@
 // Tables with no program, no terminal and no request.
 ghost use mathlib.Core.Path.{_≡_};
-ghost use mathlib.Core.Bool.{true};
-ghost use Prim.Native.Nat.{ℕ};
 ghost use Rattle.interval.specs.Rows.{noRow};
 ghost use Rattle.interval.specs.Fresh.{freshAt, Fresh};
 use crate::Phase;

@@ -2,7 +2,7 @@
 ghost use mathlib.Core.Path.{_≡_};
 ghost use mathlib.Core.Bool.{true};
 ghost use Prim.Native.Nat.{ℕ};
-ghost use Rattle.interval.specs.Stands.{Means, soundR, intervalAt};
+ghost use Rattle.interval.specs.Stands.{Means, soundR};
 ghost use Rattle.interval.specs.Remove.{removeIn, Removed};
 use crate::Requests;
 use crate::rows;

@@ -1,7 +1,6 @@
 // The rows that are requests: phases, where a name stands, and a row less.
 ghost use mathlib.Core.Path.{_≡_};
 ghost use Prim.Native.Nat.{_<_, min};
-ghost use mathlib.Core.Bool.{not};
 ghost use lib.ListN.{length, take};
 ghost use Rattle.base.specs.Lists.{has, firstAt};
 ghost use Rattle.interval.specs.Table.{live, withLive, inPhase};

@@ -8,7 +8,7 @@ ghost use Rattle.base.specs.Lists.{over};
 ghost use Rattle.model.specs.Limits.{cabinet};
 ghost use Rattle.model.specs.Interval as model;
 ghost use Rattle.interval.specs.Stands.{Means, soundR, intervalAt, Done};
-ghost use Rattle.interval.specs.Start.{begunAt, ruling, startIn, startGives, asked};
+ghost use Rattle.interval.specs.Start.{begunAt, newRow, ruling, startIn, startGives, asked};
 use crate::Phase;
 use crate::Request;
 use crate::Requests;
@@ -84,6 +84,30 @@ fn none_or_known(names: &[u32], count: usize, name: u32) -> bool
     rows::known(names, count, name)
 }
 
+// The request that is asked for: its data, and zeros behind them.
+fn new_row(
+    register: u32,
+    name: u64,
+    program: u32,
+    terminal: u32,
+    interval: u32,
+    bytes: &[u8],
+) -> Request
+    requires { ⌜ length (now bytes) ≤ 64 ⌝ }
+    ensures { λ r. ⌜ r ≡ newRow register (asked name program terminal interval (now (bytes .entry))) ⌝ }
+{
+    let mut b = [0u8; 64];
+    store(&mut b, bytes);
+    Request {
+        name,
+        program,
+        terminal,
+        phase: begun(register, interval),
+        len: bytes.len() as u8,
+        bytes: b,
+    }
+}
+
 pub fn start(
     t: Requests,
     name: u64,
@@ -103,17 +127,7 @@ pub fn start(
     let mut u = t;
     match o {
         Start::Done => {
-            let mut b = [0u8; 64];
-            store(&mut b, bytes);
-            let n = bytes.len() as u8;
-            u.rows[m] = Request {
-                name,
-                program,
-                terminal,
-                phase: begun(t.register, interval),
-                len: n,
-                bytes: b,
-            };
+            u.rows[m] = new_row(t.register, name, program, terminal, interval, bytes);
             u.count = m + 1;
         }
         Start::Invalid => {}

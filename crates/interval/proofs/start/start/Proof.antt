@@ -1,13 +1,11 @@
 -- `start::start` meets its contract. Assumes nothing.
-use mathlib.Core.Path.{_≡_, refl, ap₂, _∙_}
+use mathlib.Core.Path.{_≡_, refl, _∙_}
 use mathlib.Core.Bool.{true}
-use mathlib.Core.List.{List}
-use Prim.Native.Nat.{ℕ, _<_, _^_}
-use lib.ListN.{length, getD, length-replicate}
+use Prim.Native.Nat.{_<_, _^_}
+use lib.ListN.{length, getD}
 use borrow.Author.Tests.{lt-ltb}
 use Rattle.base.specs.Bytes.{isByte, isBytes}
 use Rattle.model.specs.Interval as model
-use Rattle.interval.specs.declared.Phase.{Phase}
 use Rattle.interval.specs.declared.answers.Start.the-variants as answers
 use Rattle.interval.specs.Table.{live}
 use Rattle.interval.specs.Start.{asked, ruled}
@@ -77,33 +75,17 @@ rule-requires c κs = search needs
 enum-told : tie.Need-enum-told
 enum-told c = search needs
 
-store-requires : tie.Need-store-requires
-store-requires c κs =
-    let f = facts (c .before) .fits in
-    (omega arith, length-replicate {A = ℕ} 64 0)
+new-row-requires : tie.Need-new-row-requires
+new-row-requires c κs = facts c .fits
 
-cast-n : tie.Need-cast-n
-cast-n c =
-    let f = facts (c .before .before) .fits in
-    omega arith
-
-begun-requires : tie.Need-begun-requires
-begun-requires c κs = search needs
-
-mul-t25 : tie.Need-mul-t25
-mul-t25 c =
-    let e = c .before .before .before in
-    omega (arith, facts e .room, count (e .before .before))
+mul-t23 : tie.Need-mul-t23
+mul-t23 c = omega (arith, facts (c .before) .room, count (c .before .before .before))
 
 element-set-from-u : tie.Need-element-set-from-u
-element-set-from-u c =
-    let e = c .before .before .before in
-    omega (arith, facts e .room, count (e .before .before))
+element-set-from-u c = omega (arith, facts (c .before) .room, count (c .before .before .before))
 
 add-u : tie.Need-add-u
-add-u c =
-    let e = c .before .before .before in
-    omega (arith, facts e .room, count (e .before .before))
+add-u c = omega (arith, facts (c .before) .room, count (c .before .before .before))
 
 enum-told-2 : tie.Need-enum-told-2
 enum-told-2 c = search needs
@@ -125,13 +107,11 @@ enum-told-7 c = search needs
 
 returns : tie.Need-returns
 returns c =
-    let e = c .before .before .before in
+    let e = c .before in
     let r = e .before .before in
     let f = first r in
     let s = f .before in
-    let a = s .args in
-    start-put (a .t1) (wanted s) (fits s) (bytes f) (r .rule .result) (told r) (e .enum-told .given .1) (long s) (r .before .least .result) (count r) _
-    (ap₂ (λ (p : Phase) (b : List ℕ). record { name = a .name; program = a .program; terminal = a .terminal; phase = p; len = length (a .bytes .now); bytes = b }) (c .begun .ensures) (c .before .store .ensures))
+    start-put (s .args .t1) (wanted s) (fits s) (bytes f) (r .rule .result) (told r) (e .enum-told .given .1) (long s) (r .before .least .result) (count r) _ (c .new-row .ensures)
 
 returns-2 : tie.Need-returns-2
 returns-2 c =
@@ -185,10 +165,8 @@ start-spec =
     least-requires
     rule-requires
     enum-told
-    store-requires
-    cast-n
-    begun-requires
-    mul-t25
+    new-row-requires
+    mul-t23
     element-set-from-u
     add-u
     enum-told-2
