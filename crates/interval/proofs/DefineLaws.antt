@@ -28,7 +28,7 @@ use Rattle.interval.proofs.Ties.{Small, small, finish}
 
 -- ---- what a ruling comes to
 
-ifDone-elim : {A : Type 0} (P : A → Type 0) (o : Define) (a b : A) → (o ≡ answers.Done → P a) → P b → P (ifDone o a b)
+pub ifDone-elim : {A : Type 0} (P : A → Type 0) (o : Define) (a b : A) → (o ≡ answers.Done → P a) → P b → P (ifDone o a b)
 ifDone-elim P answers.Done a b f g = f refl
 ifDone-elim P answers.Invalid a b f g = g
 ifDone-elim P answers.NotUnique a b f g = g
@@ -111,7 +111,7 @@ module _ (t : Requests) (n : ℕ) (h : n < 256 ^ 4) where
   abbrev pub ProgramBoth : Defined → Type 0
   ProgramBoth r = (r ≡ defineProgram t n) × ((c : ℕ) → Means t c → soundR t ≡ true → ProgramDone c r)
 
-  program-done : (c : ℕ) → Means t c → soundR t ≡ true → ProgramDone c (defineProgram t n)
+  pub program-done : (c : ℕ) → Means t c → soundR t ≡ true → ProgramDone c (defineProgram t n)
   unfolding defineProgram model.defineProgram intervalAt
   program-done c m s =
       define-done 16 t moreProgram (programsOf t) n c (model.defineProgram cabinet (intervalAt c t) n) (model.withPrograms (intervalAt c t)) refl
@@ -162,7 +162,7 @@ module _ (t : Requests) (n : ℕ) (h : n < 256 ^ 4) where
   abbrev pub TerminalBoth : Defined → Type 0
   TerminalBoth r = (r ≡ defineTerminal t n) × ((c : ℕ) → Means t c → soundR t ≡ true → TerminalDone c r)
 
-  terminal-done : (c : ℕ) → Means t c → soundR t ≡ true → TerminalDone c (defineTerminal t n)
+  pub terminal-done : (c : ℕ) → Means t c → soundR t ≡ true → TerminalDone c (defineTerminal t n)
   unfolding defineTerminal model.defineTerminal intervalAt
   terminal-done c m s =
       define-done 8 t moreTerminal (terminalsOf t) n c (model.defineTerminal cabinet (intervalAt c t) n) (model.withTerminals (intervalAt c t)) refl

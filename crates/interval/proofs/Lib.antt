@@ -10,3 +10,8 @@ pub mod Picks
 pub mod StartLaws
 pub mod DispatchLaws
 pub mod RetrieveLaws
+pub mod Kept
+pub mod Runs
+pub mod Moved
+pub mod SoundLaws
+pub mod SoundLawsWhole

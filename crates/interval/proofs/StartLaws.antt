@@ -36,7 +36,7 @@ use Rattle.interval.proofs.Standing.{known-at, live-at, live-small}
 
 -- ---- what a ruling comes to
 
-ifDone-elim : {A : Type 0} (P : A → Type 0) (o : Start) (a b : A) → (o ≡ answers.Done → P a) → P b → P (ifDone o a b)
+pub ifDone-elim : {A : Type 0} (P : A → Type 0) (o : Start) (a b : A) → (o ≡ answers.Done → P a) → P b → P (ifDone o a b)
 ifDone-elim P answers.Done a b f g = f refl
 ifDone-elim P answers.Invalid a b f g = g
 ifDone-elim P answers.WrongLength a b f g = g
@@ -133,7 +133,7 @@ module _ (t : Requests) (a : model.Asked) where
   abbrev pub StartBoth : Started → Type 0
   StartBoth r = (r ≡ startIn t a) × ((c : ℕ) → Means t c → soundR t ≡ true → StartDone c r)
 
-  facts : ruled t a ≡ answers.Done → Clear (a .interval) (length (a .bytes)) (length (live t))
+  pub facts : ruled t a ≡ answers.Done → Clear (a .interval) (length (a .bytes)) (length (live t))
   facts = cleared (a .name) (a .interval) (length (a .bytes)) (has (a .program) (programsOf t)) (model.noneOrKnown (a .terminal) (terminalsOf t)) (any (named (a .name)) (live t)) (length (live t))
 
   module _ (c : ℕ) (m : Means t c) where
@@ -181,7 +181,7 @@ module _ (t : Requests) (a : model.Asked) where
 
   -- ---- both clauses
   module _ (name : a .name < 256 ^ 8) (bytes : isBytes (a .bytes) ≡ true) where
-    start-both : (r : Started) → r ≡ startIn t a → StartBoth r
+    pub start-both : (r : Started) → r ≡ startIn t a → StartBoth r
     start-both r e = (
       e,
       λ c m s. rw e

@@ -1,2 +1,3 @@
 pub mod Circle
 pub mod Clock
+pub mod Every

@@ -15,3 +15,7 @@ pub mod Laws
 pub mod Advance
 pub mod Ranks
 pub mod AdvanceExamples
+pub mod Typed
+pub mod Runs
+pub mod Examples
+pub mod Sound

@@ -13,7 +13,7 @@ use borrow.Author.Tests.{leb-true, leb-false, lt-ltb, le-ltb, ne-eqb}
 use Rattle.base.specs.Choice.{pick}
 use Rattle.base.specs.Lists.{keep, any, all, first, firstAt, over, has, once}
 use Rattle.base.specs.Laws.Tests.{byTest, no, and-i, eqb-same}
-use Rattle.base.specs.Laws.Keep.{firstAt-lt, firstAt-none, all-none, keep-all}
+use Rattle.base.specs.Laws.Keep.{firstAt-lt, firstAt-none, all-none, keep-all, all-append, all-drop}
 use Rattle.base.specs.Laws.Over.{over-self, over-read, over-set}
 use Rattle.base.specs.Laws.Counting.{has-map, once-head, once-tail}
 use Rattle.interval.specs.Rows.{cutAt}
@@ -90,6 +90,9 @@ pub over-put : {A : Type 0} (k : ℕ) (l : List A) (x : A) → k < length l → 
 over-put k l x h =
     let n : length (take k l) ≡ k = length-take-le k l (omega arith) in
     ap (λ r. set r k x) (sym (over-self k l)) ∙ ap (λ (m : ℕ). set (over (take k l) l) m x) (sym n) ∙ over-set (take k l) l x (omega arith)
+
+pub all-over : {A : Type 0} (p : A → Bool) (ks l : List A) → all p ks ≡ true → all p l ≡ true → all p (over ks l) ≡ true
+all-over p ks l h e = all-append p ks (drop (length ks) l) ∙ and-i h (all-drop p (length ks) l e)
 
 -- ---- one less: those behind it are moved down, one a turn
 

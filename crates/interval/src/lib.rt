@@ -40,4 +40,5 @@ pub mod fresh;
 pub mod remove;
 pub mod retrieve;
 mod rows;
+pub mod sound;
 pub mod start;

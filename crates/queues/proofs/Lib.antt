@@ -1,17 +1,6 @@
 pub mod Scans
-pub mod FreshLaws
-pub mod GrownLaws
-pub mod PutLaws
-pub mod AppendLaws
 pub mod AppendCases
 pub mod SweepLaws
 pub mod ShutLaws
-pub mod ClearLaws
-pub mod DeleteLists
 pub mod DeleteExact
-pub mod DeleteLaws
 pub mod SoundLaws
-pub mod PlaceLaws
-pub mod StandLaws
-pub mod ReadLaws
-pub mod RewriteLaws

@@ -1,4 +1,4 @@
--- One turn of a scan over the first `count` of a list, and its end: where a name stands, and how often. Assumes nothing.
+-- One turn of a scan over the first `count` of a list, and its end: where a name stands. Assumes nothing.
 use mathlib.Core.Path.{_≡_, sym, ap, _∙_}
 use mathlib.Core.Bool.{Bool}
 use mathlib.Core.List.{List, [], _∷_}
@@ -9,7 +9,7 @@ use lib.Dec.{eqb}
 use lib.ListN.{length, take, drop, getD, length-take, drop-of-length-le}
 use lib.Seq.{drop-cons, getD-take}
 use borrow.Author.Tests.{eq-eqb, ne-eqb}
-use Rattle.base.specs.Lists.{firstAt, copies}
+use Rattle.base.specs.Lists.{firstAt}
 
 module _ (l : List ℕ) (count i : ℕ) where
   -- past the end nothing is left
@@ -44,21 +44,3 @@ module _ (l : List ℕ) (count i : ℕ) where
           let z : firstAt is (drop i (take count l)) ≡ suc (firstAt is (drop (i + 1) (take count l))) =
           ap (firstAt is) (next-left h g) ∙ rw (ne-eqb (getD l i 0) n e) in
           omega arith
-
-      pub tally-here : (c : ℕ) → getD l i 0 ≡ n → c + copies n (drop i (take count l)) ≡ copies n (take count l)
-          → c + 1 + copies n (drop (i + 1) (take count l)) ≡ copies n (take count l)
-      tally-here c e v =
-          let z : copies n (drop i (take count l)) ≡ 1 + copies n (drop (i + 1) (take count l)) =
-          ap (copies n) (next-left h g) ∙ rw (eq-eqb (getD l i 0) n e) in
-          omega arith
-
-      pub tally-next : (c : ℕ) → (getD l i 0 ≡ n → ⊥) → c + copies n (drop i (take count l)) ≡ copies n (take count l)
-          → c + copies n (drop (i + 1) (take count l)) ≡ copies n (take count l)
-      tally-next c e v =
-          let z : copies n (drop i (take count l)) ≡ 0 + copies n (drop (i + 1) (take count l)) =
-          ap (copies n) (next-left h g) ∙ rw (ne-eqb (getD l i 0) n e) in
-          omega arith
-
-    pub tally-end : (c : ℕ) → length (take count l) ≤ i → c + copies n (drop i (take count l)) ≡ copies n (take count l)
-        → c ≡ copies n (take count l)
-    tally-end c h v = let e = ap (copies n) (none-left h) in omega arith

@@ -4,16 +4,14 @@ use mathlib.Core.List.{List, [], _∷_, _++_, append-assoc, append-nil}
 use Prim.Native.Nat.{ℕ, suc, _+_, _-_, _<_, _≤_, min}
 use native.Mathlib.Numerals.{add-one}
 use native.Mathlib.Omega.{arith}
-use lib.ListN.{length, take, drop, getD, set, length-append, length-drop, length-take, take-append-drop, drop-of-length-le}
+use lib.ListN.{length, take, drop, getD, set, length-take, take-append-drop, drop-of-length-le}
 use lib.Seq.{take-suc, take-take, take-length, take-append-le, drop-append-le, length-take-le}
 use Rattle.base.specs.Lists.{over}
 use Rattle.base.specs.Laws.Over.{over-set, over-read}
 use Rattle.queues.specs.declared.Queues.{Queues}
 use Rattle.queues.specs.Table.{rowsIn, rowOf}
 use Rattle.queues.specs.Delete.{less, shut}
-
-pub less-length : (r : ℕ) (l : List ℕ) → r < length l → length (less r l) + 1 ≡ length l
-less-length r l h = omega (arith, length-append (take r l) (drop (suc r) l), length-take-le r l (omega arith), length-drop (suc r) l)
+use Rattle.queues.specs.Laws.DeleteLists.{less-length}
 
 less-long : (r i : ℕ) (l : List ℕ) → r < i → i ≤ length l → length (less r (take i l)) + 1 ≡ i
 less-long r i l hr hl =

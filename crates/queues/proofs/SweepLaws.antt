@@ -21,6 +21,7 @@ use Rattle.queues.specs.declared.Queues.{Queues}
 use Rattle.queues.specs.declared.delete.Deleting.the-variants.{Freed}
 use Rattle.queues.specs.Table.{slotsOf, entries, owners}
 use Rattle.queues.specs.Laws.From.{slots-snoc}
+use Rattle.queues.specs.Laws.DeleteLists.{others-long, but-long}
 use Rattle.queues.specs.Delete.{othersThan, slotsBut, clearAll, emptied, swept}
 
 -- ---- one entry more
@@ -34,20 +35,6 @@ module _ (n : ℕ) where
   but-snoc (p ∷ os) (t ∷ ss) o s l =
       let r = but-snoc os ss o s (suc-inj l) in
       byTest (eqb p n) (λ e. rw (e, r)) (λ e. rw (e, r))
-
-  -- as many slots stay as owners
-  pub but-long : (os ss : List ℕ) → length os ≡ length ss → length (slotsBut n os ss) ≡ length (othersThan n os)
-  but-long [] ss l = refl
-  but-long (o ∷ os) [] l = absurd (omega arith)
-  but-long (o ∷ os) (s ∷ ss) l =
-      let r = but-long os ss (suc-inj l) in
-      byTest (eqb o n) (λ e. rw (e, r)) (λ e. rw (e, r))
-
-  -- those that stay and those that go are all
-  pub others-long : (os : List ℕ) → length (othersThan n os) + copies n os ≡ length os
-  others-long [] = refl
-  others-long (o ∷ os) =
-      byTest (eqb o n) (λ e. rw e (omega (arith, others-long os))) (λ e. rw e (omega (arith, others-long os)))
 
 pub clearAll-snoc : (u : Used) (l : List ℕ) (s : ℕ) → clearAll u (l ++ (s ∷ [])) ≡ cleared (clearAll u l) s
 clearAll-snoc u [] s = refl

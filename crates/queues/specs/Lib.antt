@@ -8,3 +8,4 @@ pub mod Place
 pub mod Read
 pub mod Rewrite
 pub mod Laws
+pub mod Examples

@@ -12,10 +12,9 @@ ghost use Rattle.queues.specs.Append.{conditionOf, numberOf, lent, appen
 use super::Queues;
 use super::bytes::store;
 use super::find::find;
-use super::find::tally;
+use super::place::BLANK;
+use base::sets::tally;
 use slots::Slot;
-
-const BLANK: u64 = 0x2020202020202020;
 
 pub enum Appending {
     Stored(u32), // at this place

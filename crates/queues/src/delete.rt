@@ -1,6 +1,6 @@
 // Delete queue (14): the queue's row goes and its items with it, and their slots are free again.
 ghost use mathlib.Core.Path.{_≡_};
-ghost use Prim.Native.Nat.{ℕ, min};
+ghost use Prim.Native.Nat.{ℕ};
 ghost use mathlib.Core.Bool.{true};
 ghost use mathlib.Core.List.{List, []};
 ghost use Rattle.model.specs.Queues.{delete};
@@ -9,6 +9,9 @@ ghost use Rattle.queues.specs.Sound.{soundQ, Did};
 ghost use Rattle.queues.specs.Delete.{conditionOf, numberOf, swept, deleteFrom};
 use crate::Queues;
 use crate::find::find;
+use crate::place::BLANK;
+use crate::place::wide;
+use base::sets::least;
 
 pub enum Deleting {
     Freed(u32),
@@ -25,14 +28,14 @@ pub fn delete(q: Queues, name: u64) -> Deleted
     ensures exact { λ r. ⌜ r ≡ deleteFrom q name ⌝ }
     ensures model { λ r. ⌜ (soundQ q ≡ true → (b : List ℕ) → Did q b (r .queues) b (delete (queuesOf q b) name) (conditionOf (r .outcome)) (numberOf (r .outcome)) []) ⌝ }
 {
-    if name == 0x2020202020202020 {
+    if name == BLANK {
         return Deleted {
             queues: q,
             outcome: Deleting::Invalid,
         };
     }
     let row = find(&q.names, q.count, name);
-    let m = rows(q.count);
+    let m = least(q.count, 16);
     if row >= m {
         return Deleted {
             queues: q,
@@ -76,17 +79,4 @@ fn sweep(q: Queues, name: u64) -> Deleted
         queues: t,
         outcome: Deleting::Freed((n - j) as u32),
     }
-}
-
-// How many rows a count tells of.
-fn rows(count: usize) -> usize
-    ensures { λ r. ⌜ r ≡ min count 16 ⌝ }
-{
-    if count <= 16 { count } else { 16 }
-}
-
-fn wide(x: u8) -> usize
-    ensures { λ r. ⌜ r ≡ x ⌝ }
-{
-    x as usize
 }

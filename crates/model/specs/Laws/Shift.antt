@@ -116,15 +116,15 @@ module _ (k : ℕ) where
 
     -- ---- the commands of interval control
     module _ (L : Limits) where
-      program-shift : (n : ℕ) → Interval.defineProgram L j n ≡ planIn (shiftInterval k) (Interval.defineProgram L i n)
+      pub program-shift : (n : ℕ) → Interval.defineProgram L j n ≡ planIn (shiftInterval k) (Interval.defineProgram L i n)
       unfolding Interval.defineProgram
       program-shift n = refl
 
-      terminal-shift : (n : ℕ) → Interval.defineTerminal L j n ≡ planIn (shiftInterval k) (Interval.defineTerminal L i n)
+      pub terminal-shift : (n : ℕ) → Interval.defineTerminal L j n ≡ planIn (shiftInterval k) (Interval.defineTerminal L i n)
       unfolding Interval.defineTerminal
       terminal-shift n = refl
 
-      cancel-shift : (n : ℕ) → Interval.cancel j n ≡ planIn (shiftInterval k) (Interval.cancel i n)
+      pub cancel-shift : (n : ℕ) → Interval.cancel j n ≡ planIn (shiftInterval k) (Interval.cancel i n)
       unfolding Interval.cancel
       cancel-shift n = rw (known-shift n, task-shift n, remove-shift n)
 
@@ -148,7 +148,7 @@ module _ (k : ℕ) where
       over : (n : ℕ) → i .clock + k + n ≡ i .clock + n + k
       over n = omega arith
 
-      advance-shift : (n : ℕ) → Interval.advance L j n ≡ planIn (shiftInterval k) (Interval.advance L i n)
+      pub advance-shift : (n : ℕ) → Interval.advance L j n ≡ planIn (shiftInterval k) (Interval.advance L i n)
       unfolding Interval.advance
       advance-shift n = rw (over n, lapse-shift (i .clock + n), newly-shift (i .clock + n), length-map (newly (i .clock + n) (i .requests)) (later k))
 
@@ -156,7 +156,7 @@ module _ (k : ℕ) where
       begun-shift zero = refl
       begun-shift (suc n) = ap Waiting (omega arith)
 
-      start-shift : (a : Asked) → Interval.start L j a ≡ planIn (shiftInterval k) (Interval.start L i a)
+      pub start-shift : (a : Asked) → Interval.start L j a ≡ planIn (shiftInterval k) (Interval.start L i a)
       unfolding Interval.start
       start-shift a = rw (known-shift (a .name), length-map (i .requests) (later k), begun-shift (a .interval), map-append (later k) (i .requests) (Interval.accepted (i .clock) a ∷ []))
 
@@ -180,7 +180,7 @@ module _ (k : ℕ) where
       none-shift : noneStartable j ≡ outcomeIn (shiftInterval k) (noneStartable i)
       none-shift = rw (line-shift, length-map (line i) (later k))
 
-      dispatch-shift : Interval.dispatch j ≡ planIn (shiftInterval k) (Interval.dispatch i)
+      pub dispatch-shift : Interval.dispatch j ≡ planIn (shiftInterval k) (Interval.dispatch i)
       unfolding Interval.dispatch
       dispatch-shift =
           ap (λ (o : Outcome Interval). plan [] o)
@@ -216,7 +216,7 @@ module _ (k : ℕ) where
             (ap (λ (o : Outcome Interval). plan (retrieval i n t room .checks) o)
             (sym (pick-map (outcomeIn (shiftInterval k)) (hasOwn t) (cut (tookOwn i n) room (t .bytes)) (cut (remove i (server i t .name)) room (server i t .bytes)))))
 
-      retrieve-shift : (n room : ℕ) → Interval.retrieve j n room ≡ planIn (shiftInterval k) (Interval.retrieve i n room)
+      pub retrieve-shift : (n room : ℕ) → Interval.retrieve j n room ≡ planIn (shiftInterval k) (Interval.retrieve i n room)
       unfolding Interval.retrieve
       retrieve-shift n room = rw (request-shift n) (retrieval-shift n room (requestOf (i .requests) n))
 

@@ -15,7 +15,7 @@ use Rattle.queues.specs.declared.append.Appending.the-variants.{Stored}
 use Rattle.queues.specs.Table.{owners}
 use Rattle.queues.specs.Append.{withQueue, put, stored, answer, faultOf}
 use Rattle.queues.specs.Laws.Typed.{Typed, word, byte}
-use Rattle.queues.proofs.AppendLaws.{append-both}
+use Rattle.queues.specs.Laws.Append.{append-both}
 use Rattle.queues.proofs.AppendCases.{Clear, row-known, row-new, way-row, append-fault, append-no-slot, append-stored, made-owner, made-slot, made-len, stores-put, few-copies}
 use Rattle.queues.proofs.append.append.Statement.{statement}
 use Rattle.queues.proofs.append.append.Tie as tie

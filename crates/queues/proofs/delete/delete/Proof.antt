@@ -6,14 +6,14 @@ use native.Mathlib.Omega.{arith}
 use borrow.Author.Needs.{needs}
 use lib.ListN.{length}
 use Rattle.queues.specs.Laws.Typed.{Typed, word, byte}
-use Rattle.queues.proofs.DeleteLaws.{delete-both}
+use Rattle.queues.specs.Laws.Delete.{delete-both}
 use Rattle.queues.proofs.ShutLaws.{shutTo, shut-start, shut-step, shut-end}
 use Rattle.queues.proofs.DeleteExact.{exact-blank, exact-unknown, exact-freed}
 use Rattle.queues.proofs.delete.delete.Statement.{statement}
 use Rattle.queues.proofs.delete.delete.Tie as tie
 use Rattle.queues.proofs.delete.delete.Reads as reads
 use Rattle.queues.proofs.delete.delete.Lts as lts
-use Rattle.queues.proofs.delete.rows.Reads as rows-reads
+use Rattle.base.proofs.sets.least.Reads as least-reads
 use Rattle.queues.proofs.delete.sweep.Reads as sweep-reads
 use Rattle.queues.proofs.find.find.Reads as find-reads
 
@@ -29,8 +29,8 @@ typed :
     (s : lts.Start (
       find-reads.Asked,
       find-reads.Learnt,
-      rows-reads.Asked,
-      rows-reads.Learnt,
+      least-reads.Asked,
+      least-reads.Learnt,
       sweep-reads.Asked,
       sweep-reads.Learnt,
     ) reads.Pre reads.Post Inv-loop μ-loop)
@@ -46,15 +46,15 @@ returns c =
 find-requires : tie.Need-find-requires Inv-loop μ-loop
 find-requires c κs = search needs
 
-rows-requires : tie.Need-rows-requires Inv-loop μ-loop
-rows-requires c κs = search needs
+least-requires : tie.Need-least-requires Inv-loop μ-loop
+least-requires c κs = search needs
 
 returns-2 : tie.Need-returns-2 Inv-loop μ-loop
 returns-2 c =
     let a = c .before .before .before .before .before .before .before .args in
     let t = typed (c .before .before .before .before .before .before .before) in
     delete-both (a .t1) (a .name) t _ t
-    (exact-unknown (a .t1) (a .name) (t .names-long) (c .before .before .before .before .before .before .if1 .left) (omega arith))
+    (exact-unknown (a .t1) (a .name) t (c .before .before .before .before .before .before .if1 .left) (omega arith))
 
 loop-holds : tie.Need-loop-holds Inv-loop μ-loop
 loop-holds c =
@@ -116,7 +116,7 @@ returns-3 c =
     let l = c .before .before .loop in
     let b = l .inv in
     delete-both (a .t1) (a .name) t _ u
-    (exact-freed (a .t1) (a .name) (t .names-long) (c .before .before .before .before .before .before .before .before .before .if1 .left) _ _ (omega arith)
+    (exact-freed (a .t1) (a .name) t (c .before .before .before .before .before .before .before .before .before .if1 .left) _ _ (omega arith)
     (shut-end (a .t1) (b .3) (b .4) (a .name) (l .i) (l .t) (b .5 ∙ ap (λ (k : ℕ). shutTo (a .t1) k (l .i + 1)) (row .ensures)) (omega arith)) (c .sweep .ensures))
 
 pub delete-spec : {M : Type 1} → statement M
@@ -127,7 +127,7 @@ delete-spec =
     μ-loop
     returns
     find-requires
-    rows-requires
+    least-requires
     returns-2
     loop-holds
     add-loop

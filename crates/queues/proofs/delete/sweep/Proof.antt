@@ -13,11 +13,6 @@ use Rattle.queues.specs.Delete.{othersThan}
 use Rattle.queues.proofs.SweepLaws.{sweptTo, turn-hit, turn-miss, swept-none, swept-all}
 use Rattle.queues.proofs.delete.sweep.Statement.{statement}
 use Rattle.queues.proofs.delete.sweep.Tie as tie
-use Rattle.queues.proofs.delete.sweep.Reads as reads
-use Rattle.queues.proofs.delete.sweep.Lts as lts
-use Rattle.queues.proofs.delete.wide.Reads as wide-reads
-use Rattle.slots.proofs.clear.Reads as clear-reads
-use Rattle.slots.proofs.count.Reads as count-reads
 
 abbrev Inv-loop : tie.InvT-loop
 Inv-loop name n t₀ i₀ j₀ t i j =

@@ -1,7 +1,7 @@
 -- `fresh` meets its contract: no row, no entry, and every bit clear. Assumes nothing.
 use borrow.Author.Needs.{needs}
 use Rattle.queues.specs.Fresh.{fresh}
-use Rattle.queues.proofs.FreshLaws.{fresh-both}
+use Rattle.queues.specs.Laws.Fresh.{fresh-both}
 use Rattle.queues.proofs.fresh.fresh.Statement.{statement}
 use Rattle.queues.proofs.fresh.fresh.Tie as tie
 

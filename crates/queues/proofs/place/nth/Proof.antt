@@ -6,7 +6,7 @@ use native.Mathlib.Omega.{arith}
 use borrow.Author.Needs.{needs}
 use lib.ListN.{length, take, drop, getD}
 use Rattle.queues.specs.Table.{slotsOf}
-use Rattle.queues.proofs.PlaceLaws.{seek-here, seek-miss, seek-past, seek-end}
+use Rattle.queues.specs.Laws.Place.{seek-here, seek-miss, seek-past, seek-end}
 use Rattle.queues.proofs.place.nth.Statement.{statement}
 use Rattle.queues.proofs.place.nth.Tie as tie
 

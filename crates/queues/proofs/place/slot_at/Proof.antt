@@ -8,7 +8,7 @@ use Rattle.slots.specs.Bits.{held}
 use Rattle.slots.specs.Told.{Typed}
 use Rattle.slots.specs.Laws.Slots.{held-le}
 use Rattle.queues.specs.Table.{slotsOf}
-use Rattle.queues.proofs.PlaceLaws.{counted, at-zero, at-past, at-long, at-slot}
+use Rattle.queues.specs.Laws.Place.{counted, at-zero, at-past, at-long, at-slot}
 use Rattle.queues.proofs.place.slot_at.Statement.{statement}
 use Rattle.queues.proofs.place.slot_at.Tie as tie
 

@@ -1,7 +1,7 @@
 -- `queues::read::read_at` meets its contract. Assumes nothing.
 use borrow.Author.Needs.{needs}
 use Rattle.queues.specs.Laws.Typed.{Typed, word, byte}
-use Rattle.queues.proofs.ReadLaws.{read-at-all}
+use Rattle.queues.specs.Laws.Read.{read-at-all}
 use Rattle.queues.proofs.read.read_at.Statement.{statement}
 use Rattle.queues.proofs.read.read_at.Tie as tie
 

@@ -6,7 +6,7 @@ use lib.ListN.{getD}
 use Rattle.queues.specs.Table.{pointersOf}
 use Rattle.queues.specs.Read.{readIn}
 use Rattle.queues.specs.Laws.Typed.{Typed, word, byte}
-use Rattle.queues.proofs.ReadLaws.{read-next-all}
+use Rattle.queues.specs.Laws.Read.{read-next-all}
 use Rattle.queues.proofs.read.read_next.Statement.{statement}
 use Rattle.queues.proofs.read.read_next.Tie as tie
 

@@ -10,8 +10,8 @@ use Rattle.queues.specs.Table.{rowsIn, rowOf}
 use Rattle.queues.specs.Place.{slotIn}
 use Rattle.queues.specs.Read.{given, partIn, answer}
 use Rattle.queues.specs.Laws.Typed.{Typed, word, byte}
-use Rattle.queues.proofs.StandLaws.{row-known, row-unknown, place-few}
-use Rattle.queues.proofs.ReadLaws.{read-invalid, read-unknown, read-none, read-done, pointed-row}
+use Rattle.queues.specs.Laws.Rows.{row-known, row-unknown, place-few}
+use Rattle.queues.specs.Laws.Read.{read-invalid, read-unknown, read-none, read-done, pointed-row}
 use Rattle.queues.proofs.read.read_place.Statement.{statement}
 use Rattle.queues.proofs.read.read_place.Tie as tie
 

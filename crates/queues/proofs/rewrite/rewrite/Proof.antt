@@ -17,8 +17,9 @@ use Rattle.queues.specs.Table.{rowsIn, rowOf}
 use Rattle.queues.specs.Place.{slotIn}
 use Rattle.queues.specs.Rewrite.{resized, answer, putIn}
 use Rattle.queues.specs.Laws.Typed.{Typed, word, byte}
-use Rattle.queues.proofs.StandLaws.{row-known, row-unknown}
-use Rattle.queues.proofs.RewriteLaws.{wrong, rewrite-invalid, rewrite-length, rewrite-unknown, rewrite-none, rewrite-done, rewrite-all}
+use Rattle.queues.specs.Laws.Rows.{row-known, row-unknown}
+use Rattle.queues.specs.Laws.Append.{wrong}
+use Rattle.queues.specs.Laws.Rewrite.{rewrite-invalid, rewrite-length, rewrite-unknown, rewrite-none, rewrite-done, rewrite-all}
 use Rattle.queues.proofs.rewrite.rewrite.Statement.{statement}
 use Rattle.queues.proofs.rewrite.rewrite.Tie as tie
 

@@ -1,7 +1,7 @@
 -- Rewrite: the cases of the exact definition, and that from sound queues it does what the model's plan says and leaves sound queues. The
 -- items of a queue lie in slots of their own, so that one item changes and no other. Assumes nothing.
 use mathlib.Core.Path.{_≡_, refl, sym, ap, _∙_, subst}
-use mathlib.Core.Bool.{Bool, true, false, not, _||_}
+use mathlib.Core.Bool.{Bool, true, false, not}
 use mathlib.Core.List.{List, [], _∷_, map}
 use Prim.Native.Nat.{ℕ, zero, suc, _+_, _-_, _*_, _<_, _≤_}
 use native.Mathlib.Omega.{arith}
@@ -31,20 +31,17 @@ use Rattle.queues.specs.Laws.Typed.{Typed}
 use Rattle.queues.specs.Laws.From.{from-at}
 use Rattle.queues.specs.Laws.Paste.{paste-there, paste-other}
 use Rattle.queues.specs.Laws.Stands.{QueuesHold, holds, held-sound, known-of}
-use Rattle.queues.proofs.PlaceLaws.{At, at-found}
-use Rattle.queues.proofs.StandLaws.{faulty, clear, slots-have, no-place}
+use Rattle.queues.specs.Laws.Append.{wrong}
+use Rattle.queues.specs.Laws.Place.{At, at-found}
+use Rattle.queues.specs.Laws.Rows.{faulty, clear, slots-have, no-place}
 
 -- ---- the cases
 
--- "length not 1..64"
-abbrev pub wrong : List ℕ → Bool
-wrong item = not (some item) || ltb 64 (length item)
-
 module _ (q : Queues) (b : List ℕ) (n p : ℕ) (item : List ℕ) where
-  abbrev s : ℕ
+  abbrev pub s : ℕ
   s = slotIn q n p
 
-  rewrite-elim : (P : Lent → Type 0)
+  pub rewrite-elim : (P : Lent → Type 0)
       → (eqb n (blank 8) ≡ true → P (answer q b Invalid))
       → (eqb n (blank 8) ≡ false → wrong item ≡ true → P (answer q b WrongLength))
       → (eqb n (blank 8) ≡ false → wrong item ≡ false → has n (namesOf q) ≡ false → P (answer q b UnknownQueue))

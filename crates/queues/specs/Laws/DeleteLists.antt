@@ -2,11 +2,12 @@
 use mathlib.Core.Path.{_≡_, refl, sym, ap, _∙_, subst}
 use mathlib.Core.Bool.{Bool, true, false, not, _&&_}
 use mathlib.Core.List.{List, [], _∷_}
-use Prim.Native.Nat.{ℕ, _+_}
+use Prim.Native.Nat.{ℕ, suc, _+_, _<_}
 use native.Mathlib.Nat.{suc-inj}
 use native.Mathlib.Omega.{arith}
 use lib.Dec.{eqb}
-use lib.ListN.{length}
+use lib.ListN.{length, take, drop, length-append, length-drop}
+use lib.Seq.{length-take-le}
 use borrow.Author.Tests.{eqb-true, ne-eqb}
 use Rattle.base.specs.Lists.{keep, all, firstAt, has, copies, once, within}
 use Rattle.base.specs.Laws.Tests.{byTest, no, and-l, and-r, and-i, eqb-same, pick-same}
@@ -31,6 +32,9 @@ all-says p (x ∷ l) a t h =
     (λ e. all-says p l (and-r (p x) (all p l) a) t (rw e at h))
 
 -- ---- the row of a name goes
+
+pub less-length : (r : ℕ) (l : List ℕ) → r < length l → length (less r l) + 1 ≡ length l
+less-length r l h = omega (arith, length-append (take r l) (drop (suc r) l), length-take-le r l (omega arith), length-drop (suc r) l)
 
 module _ (n : ℕ) where
   abbrev named : ℕ → Bool
@@ -77,6 +81,20 @@ module _ (n : ℕ) where
         (λ e. rw e (cc (same m e, from-less ns ps (suc-inj l) (once-tail m ns o) (rw e at h))))
 
   -- ---- its entries go
+
+  -- as many slots stay as owners
+  pub but-long : (os ss : List ℕ) → length os ≡ length ss → length (slotsBut n os ss) ≡ length (othersThan n os)
+  but-long [] ss l = refl
+  but-long (o ∷ os) [] l = absurd (omega arith)
+  but-long (o ∷ os) (s ∷ ss) l =
+      let r = but-long os ss (suc-inj l) in
+      byTest (eqb o n) (λ e. rw (e, r)) (λ e. rw (e, r))
+
+  -- those that stay and those that go are all
+  pub others-long : (os : List ℕ) → length (othersThan n os) + copies n os ≡ length os
+  others-long [] = refl
+  others-long (o ∷ os) =
+      byTest (eqb o n) (λ e. rw e (omega (arith, others-long os))) (λ e. rw e (omega (arith, others-long os)))
 
   -- each slot is one of its own or one of the others'
   pub copies-split : (t : ℕ) (os ss : List ℕ) → length os ≡ length ss → copies t ss ≡ copies t (slotsOf n os ss) + copies t (slotsBut n os ss)

@@ -22,7 +22,7 @@ use Rattle.slots.specs.declared.Slot.the-variants.{At, Full}
 use Rattle.model.specs.Limits.{cabinet, some}
 use Rattle.model.specs.Plans.{Outcome, firstOf, obey, fault, done, noSpace, wrongLength, invalidRequest}
 use Rattle.model.specs.Queues.{Queue, knownQueue, queueOf, itemsIn, made, atQueue, longer, append}
-use Rattle.base.specs.Laws.Tests.{or-false-l, or-false-r}
+use Rattle.base.specs.Laws.Tests.{or-false-l, or-false-r, pick-elim}
 use Rattle.queues.specs.declared.Queues.{Queues}
 use Rattle.queues.specs.declared.append.Appended.{Appended}
 use Rattle.queues.specs.declared.append.Appending.the-variants.{Stored, NoSpace, WrongLength, Invalid}
@@ -32,8 +32,33 @@ use Rattle.queues.specs.Sound.{soundQ, Did}
 use Rattle.queues.specs.Append.{conditionOf, numberOf, withQueue, put, stored, Lent, lent, answer, inSlot, appendTo}
 use Rattle.queues.specs.Laws.Typed.{Typed}
 use Rattle.queues.specs.Laws.Stands.{QueuesHold, holds, held-sound, known-of, count-of, items-of, number-of}
-use Rattle.queues.proofs.GrownLaws.{Ready, ready}
-use Rattle.queues.proofs.PutLaws.{put-holds, put-stands}
+use Rattle.queues.specs.Laws.Grown.{Ready, ready}
+use Rattle.queues.specs.Laws.Put.{put-holds, put-stands}
+
+-- ---- the cases
+
+-- "length not 1..64"
+abbrev pub wrong : List ℕ → Bool
+wrong item = not (some item) || ltb 64 (length item)
+
+-- "the name is unknown and 16 queues exist"
+abbrev pub noRow : Queues → ℕ → Bool
+noRow q n = not (has n (namesOf q)) && leb 16 (q .count)
+
+pub append-elim : (q : Queues) (b : List ℕ) (may n : ℕ) (item : List ℕ) (P : Lent → Type 0)
+    → (eqb n (blank 8) ≡ true → P (answer q b Invalid))
+    → (eqb n (blank 8) ≡ false → wrong item ≡ true → P (answer q b WrongLength))
+    → (eqb n (blank 8) ≡ false → wrong item ≡ false → noRow q n ≡ true → P (answer q b NoSpace))
+    → (eqb n (blank 8) ≡ false → wrong item ≡ false → noRow q n ≡ false → (x : Slot) → freeFor may (q .used) ≡ x → P (inSlot (withQueue q n) b n item x))
+    → P (appendTo q b may n item)
+unfolding appendTo
+append-elim q b may n item P a w f d =
+    let last : Lent = inSlot (withQueue q n) b n item (freeFor may (q .used)) in
+    let third : Lent = pick (noRow q n) (answer q b NoSpace) last in
+    pick-elim P (eqb n (blank 8)) (answer q b Invalid) (pick (wrong item) (answer q b WrongLength) third) a
+    (λ e.
+    pick-elim P (wrong item) (answer q b WrongLength) third (w e)
+    (λ g. pick-elim P (noRow q n) (answer q b NoSpace) last (f e g) (λ h. d e g h (freeFor may (q .used)) refl)))
 
 -- ---- what the plan says, by its checks
 
@@ -73,7 +98,7 @@ module _ (q : Queues) (b : List ℕ) (may n : ℕ) (item : List ℕ) (t : Typed 
   abbrev s : QueuesHold q
   s = holds q sound
 
-  abbrev Meets : Lent → Type 0
+  abbrev pub Meets : Lent → Type 0
   Meets r =
       Did q b (r .appended .queues) (r .items) (append cabinet may (queuesOf q b) n item)
       (conditionOf (r .appended .outcome)) (numberOf (r .appended .outcome)) []
@@ -123,28 +148,11 @@ module _ (q : Queues) (b : List ℕ) (may n : ℕ) (item : List ℕ) (t : Typed 
     slot-case Full z = no-slot z
     slot-case (At k) z = into k z
 
-  row-case : eqb n (blank 8) ≡ false → (not (some item) || ltb 64 (length item)) ≡ false → (x : Bool)
-      → (not (has n (namesOf q)) && leb 16 (q .count)) ≡ x
-      → Meets (pick x (answer q b NoSpace) (inSlot (withQueue q n) b n item (freeFor may (q .used))))
-  row-case e f true g = record { outcome = told-no-row may l n item e f (row-test ∙ g); soundly = sound }
-  row-case e f false g = slot-case e f g (freeFor may (q .used)) refl
-
-  length-case : eqb n (blank 8) ≡ false → (x : Bool) → (not (some item) || ltb 64 (length item)) ≡ x
-      → Meets (pick x (answer q b WrongLength)
-      (pick (not (has n (namesOf q)) && leb 16 (q .count)) (answer q b NoSpace) (inSlot (withQueue q n) b n item (freeFor may (q .used)))))
-  length-case e true f = record { outcome = told-length may l n item e f; soundly = sound }
-  length-case e false f = row-case e f (not (has n (namesOf q)) && leb 16 (q .count)) refl
-
-  name-case : (x : Bool) → eqb n (blank 8) ≡ x
-      → Meets (pick x (answer q b Invalid)
-      (pick (not (some item) || ltb 64 (length item)) (answer q b WrongLength)
-      (pick (not (has n (namesOf q)) && leb 16 (q .count)) (answer q b NoSpace) (inSlot (withQueue q n) b n item (freeFor may (q .used))))))
-  name-case true e = record { outcome = told-invalid may l n item e; soundly = sound }
-  name-case false e = length-case e (not (some item) || ltb 64 (length item)) refl
-
-  append-meets : Meets (appendTo q b may n item)
-  unfolding appendTo
-  append-meets = name-case (eqb n (blank 8)) refl
+  pub append-meets : Meets (appendTo q b may n item)
+  append-meets =
+      append-elim q b may n item Meets (λ e. record { outcome = told-invalid may l n item e; soundly = sound })
+      (λ e f. record { outcome = told-length may l n item e f; soundly = sound })
+      (λ e f g. record { outcome = told-no-row may l n item e f (row-test ∙ g); soundly = sound }) slot-case
 
 -- what a function owes that comes to `appendTo`
 pub append-both : (q : Queues) (b : List ℕ) (may n : ℕ) (item : List ℕ) (r : Appended) (b′ : List ℕ) → Typed q → n < 2 ^ 64 → length b ≡ 8192

@@ -21,7 +21,7 @@ use Rattle.queues.specs.Place.{hasItem, slotIn}
 use Rattle.queues.specs.Laws.Typed.{Typed, entries-le, owners-long, entries-long, names-count, rows-long}
 use Rattle.queues.specs.Laws.From.{slots-count, slots-all}
 use Rattle.queues.specs.Laws.Stands.{QueuesHold, all-both, known-of, queue-of, number-of, used-below, contents-long}
-use Rattle.queues.proofs.PlaceLaws.{At, at-found, at-none}
+use Rattle.queues.specs.Laws.Place.{At, at-found, at-none}
 
 -- ---- a plan that is obeyed: a check holds, or none does
 

@@ -3,7 +3,7 @@
 use mathlib.Core.Path.{_≡_, refl, sym, ap, _∙_, subst}
 use mathlib.Core.Bool.{true, false, not}
 use mathlib.Core.List.{List, [], _∷_}
-use Prim.Native.Nat.{ℕ, _+_, _-_, _*_, _<_, _≤_, min}
+use Prim.Native.Nat.{ℕ, _+_, _*_, _<_, _≤_, min}
 use native.Mathlib.Omega.{arith}
 use lib.Dec.{eqb, leb, ltb}
 use lib.ListN.{length, take, drop, getD, set}
@@ -28,16 +28,16 @@ use Rattle.queues.specs.Read.{conditionOf, numberOf, bytesOf, Inside, Li
 use Rattle.queues.specs.Laws.Typed.{Typed, rows-long}
 use Rattle.queues.specs.Laws.From.{from-point, from-same}
 use Rattle.queues.specs.Laws.Stands.{QueuesHold, holds, held-sound, known-of}
-use Rattle.queues.proofs.PlaceLaws.{at-found}
-use Rattle.queues.proofs.StandLaws.{faulty, clear, known-row, slots-number, no-place, pointer-of, item-at, item-long}
+use Rattle.queues.specs.Laws.Place.{at-found}
+use Rattle.queues.specs.Laws.Rows.{faulty, clear, known-row, slots-number, no-place, pointer-of, item-at, item-long}
 
 -- ---- the cases
 
 module _ (q : Queues) (n p room : ℕ) where
-  abbrev done : Read
+  abbrev pub done : Read
   done = answer (pointTo q n p) (given room (partIn q room (slotIn q n p)))
 
-  read-elim : (P : Read → Type 0)
+  pub read-elim : (P : Read → Type 0)
       → (eqb n (blank 8) ≡ true → P (answer q Invalid))
       → (eqb n (blank 8) ≡ false → has n (namesOf q) ≡ false → P (answer q UnknownQueue))
       → (eqb n (blank 8) ≡ false → has n (namesOf q) ≡ true → leb 128 (slotIn q n p) ≡ true → P (answer q NoSuchItem))

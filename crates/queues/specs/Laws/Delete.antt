@@ -31,10 +31,8 @@ use Rattle.queues.specs.Delete.{conditionOf, numberOf, less, othersThan,
 use Rattle.queues.specs.Laws.Typed.{Typed, owners-long, entries-long, names-count, pointers-count, rows-long}
 use Rattle.queues.specs.Laws.From.{slots-count, slots-none}
 use Rattle.queues.specs.Laws.Stands.{Laid, QueuesHold, holds, known-of, number-of, model-sound, stands-sound}
-use Rattle.queues.proofs.SweepLaws.{others-long, but-long}
-use Rattle.queues.proofs.ShutLaws.{less-length}
-use Rattle.queues.proofs.ClearLaws.{Cleared, clear-all}
-use Rattle.queues.proofs.DeleteLists.{all-has, all-says, less-others, others-within, from-less, copies-split, slots-others, but-has, but-all, but-once, but-other}
+use Rattle.queues.specs.Laws.Clear.{Cleared, clear-all}
+use Rattle.queues.specs.Laws.DeleteLists.{all-has, all-says, less-length, less-others, others-long, but-long, others-within, from-less, copies-split, slots-others, but-has, but-all, but-once, but-other}
 
 -- ---- a known queue
 
