@@ -5,13 +5,13 @@ use mathlib.Core.Bool.{true}
 use mathlib.Core.List.{map}
 use lib.ListN.{take}
 use Rattle.model.specs.Handlers as model
-use Rattle.model.specs.Laws.SoundTasks.{no-tasks-sound}
 use Rattle.handlers.specs.declared.Setting.{Setting}
 use Rattle.handlers.specs.declared.Tasks.{Tasks}
 use Rattle.handlers.specs.declared.answers.Handled.{Handled}
 use Rattle.handlers.specs.declared.answers.Names.{Names}
 use Rattle.handlers.specs.Table.{settingOf, tasksOf, soundH}
 use Rattle.handlers.specs.Fresh.{noTasks, Fresh}
+use Rattle.handlers.specs.Laws.Kept.{none-fresh}
 use Rattle.handlers.specs.Set.{handleIn, ignoreIn, resetIn, room, Done}
 use Rattle.handlers.specs.Decide.{decideIn}
 use Rattle.handlers.specs.Forget.{forgetIn, Forgotten}
@@ -20,10 +20,6 @@ use Rattle.handlers.specs.Laws.Standing.{names-listed}
 use Rattle.handlers.specs.Laws.Set.{handle-done, ignore-done, reset-done}
 use Rattle.handlers.specs.Laws.Decide.{decide-stands}
 use Rattle.handlers.specs.Laws.Forget.{forget-done}
-
-none-fresh : Fresh noTasks
-unfolding noTasks tasksOf soundH
-none-fresh = record { none = refl; soundly = no-tasks-sound }
 
 pub fresh-both : (r : Tasks) → r ≡ noTasks → (r ≡ noTasks) × Fresh r
 fresh-both r e = (e, rw e none-fresh)

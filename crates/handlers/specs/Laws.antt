@@ -4,3 +4,4 @@ pub mod Set
 pub mod Decide
 pub mod Forget
 pub mod Every
+pub mod Kept

@@ -1,17 +1,3 @@
-pub mod Typed
-pub mod Ties
-pub mod Standing
-pub mod RemoveLaws
-pub mod CancelLaws
-pub mod ActiveLaws
-pub mod FreshLaws
-pub mod DefineLaws
 pub mod Picks
-pub mod StartLaws
-pub mod DispatchLaws
-pub mod RetrieveLaws
-pub mod Kept
-pub mod Runs
-pub mod Moved
 pub mod SoundLaws
 pub mod SoundLawsWhole

@@ -1,5 +1,5 @@
 -- The operations one after the other, any number of them: what each comes to by its exact definition, and what it comes to in the model.
--- proofs/Runs.antt shows that these are the same. Assumes nothing.
+-- Laws/Runs.antt shows that these are the same. Assumes nothing.
 use Prim.Native.Nat.{ℕ, _+_, _%_, _^_}
 use mathlib.Core.Bool.{Bool, true, false, _&&_}
 use mathlib.Core.List.{List, [], _∷_}

@@ -4,3 +4,4 @@ pub mod SweepLaws
 pub mod ShutLaws
 pub mod DeleteExact
 pub mod SoundLaws
+pub mod Small

@@ -5,7 +5,7 @@ use Prim.Native.Nat.{ℕ, zero, suc, _+_, _-_, _<_, _≤_}
 use native.Mathlib.Numerals.{add-one}
 use native.Mathlib.Omega.{arith}
 use lib.ListN.{length, take, drop, getD, set, length-append, length-drop, List·getD-append}
-use lib.Seq.{drop-cons, set-append-seam, getD-append-add, getD-drop, take-append-seam, drop-append-seam, drop-append-add, drop-drop, append-snoc}
+use lib.Seq.{length-take-le, take-suc, drop-cons, set-append-seam, getD-append-add, getD-drop, take-append-seam, drop-append-seam, drop-append-add, drop-drop, append-snoc}
 use Rattle.base.specs.Lists.{over}
 
 module _ {A : Type 0} where
@@ -60,3 +60,11 @@ module _ {A : Type 0} where
   over-self zero l = refl
   over-self (suc n) [] = refl
   over-self (suc n) (x ∷ l) = ap (λ (r : List A). x ∷ r) (over-self n l)
+
+  -- one more of a list is written
+  pub over-take : (s l : List A) (i : ℕ) (d : A) → i < length s → i < length l → set (over (take i s) l) i (getD s i d) ≡ over (take (i + 1) s) l
+  over-take s l i d hs hl =
+      let n : length (take i s) ≡ i = length-take-le i s (omega arith) in
+      ap (λ (m : ℕ). set (over (take i s) l) m (getD s i d)) (sym n)
+      ∙ over-set (take i s) l (getD s i d) (omega arith)
+      ∙ ap (λ r. over r l) (sym (ap (λ (m : ℕ). take m s) (add-one i) ∙ take-suc s i d hs))

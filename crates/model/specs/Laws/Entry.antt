@@ -10,13 +10,13 @@ use lib.Dec.{eqb}
 use borrow.Author.Tests.{le-leb, lt-leb}
 use Rattle.base.specs.Choice.{pick}
 use Rattle.base.specs.Bytes.{num, isBytes}
-use Rattle.base.specs.Laws.Tests.{pick-elim}
-use Rattle.base.specs.Laws.Bytes.{num-bound}
+use Rattle.base.specs.Laws.Tests.{and-i, pick-elim}
+use Rattle.base.specs.Laws.Bytes.{num-bound, isBytes-take, isBytes-drop}
 use Rattle.model.specs.Limits.{Limits}
 use Rattle.model.specs.State.{State, emptyAt}
 use Rattle.model.specs.Commands.{step}
 use Rattle.model.specs.Lists.{Framed, bad, good, behind, whole, records, headed, framed, answersFrom, refusal, answered, ran, run}
-use Rattle.model.specs.Demands.{ListDemands}
+use Rattle.model.specs.Demands.{ListDemands, areBytes}
 use Rattle.model.specs.Laws.Shift.{shift, state-shift, answer-same}
 use Rattle.model.specs.Laws.Moved.{from-two, round}
 
@@ -41,13 +41,39 @@ records-value v (suc f) l =
     pick-value v (eqb (length l) 0) (good v []) _ refl
     (pick-value v (whole l) _ bad (behind-value v (take (num 0 2 l) (drop 2 l)) (records v f (drop (2 + num 0 2 l) l)) (records-value v f (drop (2 + num 0 2 l) l))) refl)
 
-framed-value : (l : List ℕ) (v : ℕ) (rs : List (List ℕ)) → framed l ≡ good v rs → v ≡ num 5 4 l
+pub framed-value : (l : List ℕ) (v : ℕ) (rs : List (List ℕ)) → framed l ≡ good v rs → v ≡ num 5 4 l
 unfolding framed valueOf
 framed-value l v rs e =
     sym (ap (valueOf (num 5 4 l)) e) ∙ pick-value (num 5 4 l) (headed l) (records (num 5 4 l) (length l) (drop 9 l)) bad (records-value (num 5 4 l) (length l) (drop 9 l)) refl
 
-value-fits : (l : List ℕ) (v : ℕ) (rs : List (List ℕ)) → isBytes l ≡ true → framed l ≡ good v rs → v < 2 ^ 32
+pub value-fits : (l : List ℕ) (v : ℕ) (rs : List (List ℕ)) → isBytes l ≡ true → framed l ≡ good v rs → v < 2 ^ 32
 value-fits l v rs b e = let h : num 5 4 l < 256 ^ 4 = num-bound 5 4 l b in rw (framed-value l v rs e) h
+
+-- ---- the records of a list of bytes are bytes
+bytesIn : Framed → Bool
+bytesIn bad = true
+bytesIn (good v rs) = areBytes rs
+
+behind-bytes : (r : List ℕ) (x : Framed) → isBytes r ≡ true → bytesIn x ≡ true → bytesIn (behind r x) ≡ true
+unfolding bytesIn
+behind-bytes r bad b h = refl
+behind-bytes r (good v rs) b h = and-i b h
+
+records-bytes : (v f : ℕ) (l : List ℕ) → isBytes l ≡ true → bytesIn (records v f l) ≡ true
+unfolding bytesIn
+records-bytes v zero l b = pick-elim (λ (x : Framed). bytesIn x ≡ true) (eqb (length l) 0) (good v []) bad (λ _. refl) (λ _. refl)
+records-bytes v (suc f) l b =
+    let n = num 0 2 l in
+    pick-elim (λ (x : Framed). bytesIn x ≡ true) (eqb (length l) 0) (good v []) _ (λ _. refl)
+    (λ _. pick-elim (λ (x : Framed). bytesIn x ≡ true) (whole l) _ bad
+    (λ _. behind-bytes (take n (drop 2 l)) (records v f (drop (2 + n) l)) (isBytes-take n (drop 2 l) (isBytes-drop 2 l b)) (records-bytes v f (drop (2 + n) l) (isBytes-drop (2 + n) l b)))
+    (λ _. refl))
+
+pub framed-bytes : (l : List ℕ) (v : ℕ) (rs : List (List ℕ)) → isBytes l ≡ true → framed l ≡ good v rs → areBytes rs ≡ true
+unfolding framed bytesIn
+framed-bytes l v rs b e =
+    sym (ap bytesIn e)
+    ∙ pick-elim (λ (x : Framed). bytesIn x ≡ true) (headed l) (records (num 5 4 l) (length l) (drop 9 l)) bad (λ _. records-bytes (num 5 4 l) (length l) (drop 9 l) (isBytes-drop 9 l b)) (λ _. refl)
 
 module _ (L : Limits) where
   -- a clock that has gone round any number of times answers the same

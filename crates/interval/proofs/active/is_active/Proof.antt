@@ -13,9 +13,9 @@ use Rattle.interval.specs.declared.Requests.{Requests}
 use Rattle.interval.specs.Table.{live}
 use Rattle.interval.specs.Rows.{active, outRow}
 use Rattle.interval.specs.ListLaws.{any-hit, any-miss, any-end}
-use Rattle.interval.proofs.Typed.{unmapped}
-use Rattle.interval.proofs.Standing.{and-no}
-use Rattle.interval.proofs.ActiveLaws.{task, active-both}
+use Rattle.interval.specs.Laws.Typed.{unmapped}
+use Rattle.interval.specs.Laws.Standing.{and-no}
+use Rattle.interval.specs.Laws.Active.{task, active-both}
 use borrow.Author.Needs.{needs}
 use native.Mathlib.Omega.{arith}
 use Rattle.interval.proofs.active.is_active.Statement.{statement}

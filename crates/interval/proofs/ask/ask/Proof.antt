@@ -1,5 +1,5 @@
 -- `ask::ask` meets its contract. Assumes nothing.
-use Rattle.interval.proofs.FreshLaws.{ask-both}
+use Rattle.interval.specs.Laws.Fresh.{ask-both}
 use Rattle.interval.proofs.ask.ask.Statement.{statement}
 use Rattle.interval.proofs.ask.ask.Tie as tie
 

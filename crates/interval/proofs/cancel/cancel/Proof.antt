@@ -6,9 +6,9 @@ use lib.ListN.{length, length-take}
 use Rattle.base.specs.Lists.{any}
 use Rattle.interval.specs.Table.{live}
 use Rattle.interval.specs.Rows.{named}
-use Rattle.interval.proofs.Typed.{unmapped}
-use Rattle.interval.proofs.Standing.{found, missing}
-use Rattle.interval.proofs.CancelLaws.{cancel-blank, cancel-missing, cancel-active, cancel-hit}
+use Rattle.interval.specs.Laws.Typed.{unmapped}
+use Rattle.interval.specs.Laws.Standing.{found, missing}
+use Rattle.interval.specs.Laws.Cancel.{cancel-blank, cancel-missing, cancel-active, cancel-hit}
 use native.Mathlib.Omega.{arith}
 use borrow.Author.Needs.{needs}
 use Rattle.interval.proofs.cancel.cancel.Statement.{statement}

@@ -3,7 +3,7 @@ use mathlib.Core.Path.{_≡_, refl}
 use Prim.Native.Nat.{_<_, _^_}
 use lib.ListN.{length}
 use Rattle.interval.specs.declared.answers.Define.the-variants as answers
-use Rattle.interval.proofs.DefineLaws.{program-room, program-same, program-put}
+use Rattle.interval.specs.Laws.Define.{program-room, program-same, program-put}
 use native.Mathlib.Omega.{arith}
 use borrow.Author.Needs.{needs}
 use Rattle.interval.proofs.define.define_program.Statement.{statement}

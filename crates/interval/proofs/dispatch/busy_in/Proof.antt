@@ -12,7 +12,7 @@ use Rattle.interval.specs.Table.{live}
 use Rattle.interval.specs.Rows.{active, outRow}
 use Rattle.interval.specs.Dispatch.{programOf, terminalOf}
 use Rattle.interval.specs.ListLaws.{gather-hit, gather-miss, gather-end}
-use Rattle.interval.proofs.Typed.{unmapped}
+use Rattle.interval.specs.Laws.Typed.{unmapped}
 use borrow.Author.Needs.{needs}
 use native.Mathlib.Omega.{arith}
 use Rattle.interval.proofs.dispatch.busy_in.Statement.{statement}

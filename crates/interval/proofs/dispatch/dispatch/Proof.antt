@@ -5,8 +5,8 @@ use lib.ListN.{length, length-take}
 use Rattle.interval.specs.declared.dispatch.Picked.the-variants as picked
 use Rattle.interval.specs.Table.{live}
 use Rattle.interval.specs.Dispatch.{pickIn}
-use Rattle.interval.proofs.Typed.{unmapped}
-use Rattle.interval.proofs.DispatchLaws.{dispatch-both, pick-below, dispatch-hit, dispatch-none}
+use Rattle.interval.specs.Laws.Typed.{unmapped}
+use Rattle.interval.specs.Laws.Dispatch.{dispatch-both, pick-below, dispatch-hit, dispatch-none}
 use native.Mathlib.Omega.{arith}
 use borrow.Author.Needs.{needs}
 use Rattle.interval.proofs.dispatch.dispatch.Statement.{statement}

@@ -6,7 +6,7 @@ use Rattle.base.specs.Bytes.{blank}
 use lib.ListN.{take}
 use borrow.Author.Tests.{eq-eqb, ne-eqb}
 use Rattle.base.specs.Lists.{has}
-use Rattle.interval.proofs.Standing.{and-no, and-yes}
+use Rattle.interval.specs.Laws.Standing.{and-no, and-yes}
 use borrow.Author.Needs.{needs}
 use Rattle.interval.proofs.dispatch.free.Statement.{statement}
 use Rattle.interval.proofs.dispatch.free.Tie as tie

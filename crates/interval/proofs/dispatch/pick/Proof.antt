@@ -11,7 +11,7 @@ use Rattle.interval.specs.Table.{live}
 use Rattle.interval.specs.Rows.{expired, outRow}
 use Rattle.interval.specs.Dispatch.{ready, passedBy, free}
 use Rattle.interval.specs.ListLaws.{firstAt-hit, firstAt-miss, firstAt-end}
-use Rattle.interval.proofs.Typed.{unmapped}
+use Rattle.interval.specs.Laws.Typed.{unmapped}
 use Rattle.interval.proofs.Picks.{free-is, is-ready, not-free, not-expired, passed-more, passed-same, picks, picks-none}
 use borrow.Author.Needs.{needs}
 use native.Mathlib.Omega.{arith}

@@ -1,5 +1,5 @@
 -- `fresh::fresh` meets its contract. Assumes nothing.
-use Rattle.interval.proofs.FreshLaws.{fresh-both}
+use Rattle.interval.specs.Laws.Fresh.{fresh-both}
 use borrow.Author.Needs.{needs}
 use Rattle.interval.proofs.fresh.fresh.Statement.{statement}
 use Rattle.interval.proofs.fresh.fresh.Tie as tie

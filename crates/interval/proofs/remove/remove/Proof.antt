@@ -2,9 +2,9 @@
 use mathlib.Core.Path.{_≡_}
 use lib.ListN.{length, length-take}
 use Rattle.interval.specs.Rows.{named}
-use Rattle.interval.proofs.Typed.{unmapped}
-use Rattle.interval.proofs.Standing.{found, missing}
-use Rattle.interval.proofs.RemoveLaws.{removed, nothing-removed}
+use Rattle.interval.specs.Laws.Typed.{unmapped}
+use Rattle.interval.specs.Laws.Standing.{found, missing}
+use Rattle.interval.specs.Laws.Remove.{removed, nothing-removed}
 use native.Mathlib.Omega.{arith}
 use borrow.Author.Needs.{needs}
 use Rattle.interval.proofs.remove.remove.Statement.{statement}

@@ -12,9 +12,9 @@ use Rattle.interval.specs.declared.Phase.the-variants.{Active}
 use Rattle.interval.specs.Table.{live, inPhase}
 use Rattle.interval.specs.Rows.{named}
 use Rattle.interval.specs.Retrieve.{taskOf, hasOwn, serves, handed}
-use Rattle.interval.proofs.Typed.{unmapped}
-use Rattle.interval.proofs.Standing.{found, missing}
-use Rattle.interval.proofs.RetrieveLaws.{own-there, task-row, no-task, retrieve-both, retrieve-own, retrieve-served, retrieve-nothing, handing}
+use Rattle.interval.specs.Laws.Typed.{unmapped}
+use Rattle.interval.specs.Laws.Standing.{found, missing}
+use Rattle.interval.specs.Laws.Retrieve.{own-there, task-row, no-task, retrieve-both, retrieve-own, retrieve-served, retrieve-nothing, handing}
 use native.Mathlib.Omega.{arith}
 use borrow.Author.Needs.{needs}
 use Rattle.interval.proofs.retrieve.retrieve.Statement.{statement}

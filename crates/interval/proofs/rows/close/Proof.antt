@@ -9,7 +9,7 @@ use Rattle.interval.specs.declared.Requests.{Requests}
 use Rattle.interval.specs.Table.{live}
 use Rattle.interval.specs.Rows.{cutAt, outRow}
 use Rattle.interval.specs.ListLaws.{cut-none, cut-more, length-cut, take-least}
-use Rattle.interval.proofs.Typed.{unmapped, withRows, counted}
+use Rattle.interval.specs.Laws.Typed.{unmapped, withRows, counted}
 use borrow.Author.Needs.{needs}
 use native.Mathlib.Omega.{arith}
 use Rattle.interval.proofs.rows.close.Statement.{statement}

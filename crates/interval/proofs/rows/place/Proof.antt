@@ -8,7 +8,7 @@ use Rattle.interval.specs.declared.Requests.{Requests}
 use Rattle.interval.specs.Table.{live}
 use Rattle.interval.specs.Rows.{named, outRow}
 use Rattle.interval.specs.ListLaws.{firstAt-hit, firstAt-miss, firstAt-end}
-use Rattle.interval.proofs.Typed.{unmapped}
+use Rattle.interval.specs.Laws.Typed.{unmapped}
 use borrow.Author.Needs.{needs}
 use native.Mathlib.Omega.{arith}
 use Rattle.interval.proofs.rows.place.Statement.{statement}

@@ -10,7 +10,7 @@ use Rattle.interval.specs.Table.{live}
 use Rattle.interval.specs.Rows.{outRow}
 use Rattle.interval.specs.Sound.{keyOf, valueIn, isIn, column}
 use Rattle.interval.specs.ListLaws.{gather-hit, gather-miss, gather-end}
-use Rattle.interval.proofs.Typed.{unmapped}
+use Rattle.interval.specs.Laws.Typed.{unmapped}
 use borrow.Author.Needs.{needs}
 use native.Mathlib.Omega.{arith}
 use Rattle.interval.proofs.sound.gather.Statement.{statement}

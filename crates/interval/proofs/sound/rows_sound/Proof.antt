@@ -9,7 +9,7 @@ use Rattle.interval.specs.declared.Requests.{Requests}
 use Rattle.interval.specs.Table.{live}
 use Rattle.interval.specs.Rows.{outRow}
 use Rattle.interval.specs.Sound.{soundIn}
-use Rattle.interval.proofs.Typed.{unmapped}
+use Rattle.interval.specs.Laws.Typed.{unmapped}
 use Rattle.interval.proofs.SoundLaws.{row-tested}
 use borrow.Author.Needs.{needs}
 use native.Mathlib.Omega.{arith}

@@ -10,8 +10,8 @@ use Rattle.interval.specs.declared.answers.Start.the-variants as answers
 use Rattle.interval.specs.Table.{live}
 use Rattle.interval.specs.Start.{asked, ruled}
 use Rattle.interval.specs.ListLaws.{all-by-getD}
-use Rattle.interval.proofs.Typed.{unmapped}
-use Rattle.interval.proofs.StartLaws.{Clear, start-same, start-facts, start-put, start-told, start-count}
+use Rattle.interval.specs.Laws.Typed.{unmapped}
+use Rattle.interval.specs.Laws.Start.{Clear, start-same, start-facts, start-put, start-told, start-count}
 use native.Mathlib.Omega.{arith}
 use borrow.Author.Needs.{needs}
 use Rattle.interval.proofs.start.start.Statement.{statement}

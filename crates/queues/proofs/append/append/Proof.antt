@@ -6,6 +6,9 @@ use mathlib.Core.List.{List}
 use Prim.Native.Nat.{ℕ, _+_, _≤_, _<_}
 use native.Mathlib.Omega.{arith}
 use borrow.Author.Needs.{needs}
+use native.Mathlib.Nat.{le-of-lt, le-trans}
+use lib.Dec.{lit≤}
+use Rattle.queues.proofs.Small.{eights, sixties, next-fits, fits-byte, one-more, one-more-half, slot-room}
 use lib.ListN.{length}
 use Rattle.base.specs.Lists.{copies}
 use Rattle.slots.specs.Told.{Free}
@@ -70,16 +73,16 @@ returns c =
     ∙ append-fault (a .t1) (typed s) (a .items .now) (a .may) (a .name) (a .item .now) _ (sym (d .checks .ensures) ∙ e .enum-told .given .1))
 
 mul-t : tie.Need-mul-t
-mul-t c = let l = clear (c .before .before) in search needs
+mul-t c = eights _ 16 (clear (c .before .before) .below) (lit≤ tt)
 
 element-write-t : tie.Need-element-write-t
-element-write-t c = let l = clear (c .before .before) in search needs
+element-write-t c = clear (c .before .before) .below
 
 element-write-t-2 : tie.Need-element-write-t-2
-element-write-t-2 c = let l = clear (c .before .before) in search needs
+element-write-t-2 c = clear (c .before .before) .below
 
 add-t : tie.Need-add-t
-add-t c = let l = clear (c .before .before) in search needs
+add-t c = next-fits _ 16 (clear (c .before .before) .below) (lit≤ tt)
 
 free-slot-requires : tie.Need-free-slot-requires
 free-slot-requires c κs = search needs
@@ -143,41 +146,41 @@ tally-requires : tie.Need-tally-requires
 tally-requires c κs = search needs
 
 add-place : tie.Need-add-place
-add-place c = let w = within c in omega arith
+add-place c = one-more _ (within c .few)
 
 mul-t-2 : tie.Need-mul-t-2
-mul-t-2 c = let w = within c in omega arith
+mul-t-2 c = eights _ 128 (within c .entry) (lit≤ tt)
 
 element-write-t-3 : tie.Need-element-write-t-3
-element-write-t-3 c = let w = within c in omega arith
+element-write-t-3 c = within c .entry
 
 cast-t : tie.Need-cast-t
-cast-t c = let w = within c in omega arith
+cast-t c = fits-byte _ (le-of-lt (within c .slot))
 
 element-write-t-4 : tie.Need-element-write-t-4
-element-write-t-4 c = let w = within c in omega arith
+element-write-t-4 c = within c .entry
 
 cast-t-2 : tie.Need-cast-t-2
-cast-t-2 c = let w = within c in omega arith
+cast-t-2 c = fits-byte _ (le-trans (within c .short) (lit≤ tt))
 
 element-write-t-5 : tie.Need-element-write-t-5
-element-write-t-5 c = let w = within c in omega arith
+element-write-t-5 c = within c .slot
 
 mark-requires : tie.Need-mark-requires
 mark-requires c κs = search needs
 
 mul-store : tie.Need-mul-store
-mul-store c = let w = within (c .before) in omega arith
+mul-store c = sixties _ 128 (within (c .before) .slot) (lit≤ tt)
 
 store-requires : tie.Need-store-requires
 store-requires c κs =
     let w = within (c .before) in
     let v = c .before .before .before .before .before .before .before in
     let j = v .before .before .before .before in
-    omega (arith, j .before .before .before .before .before .before .before .before .b .given .0 .1)
+    slot-room _ _ _ (w .slot) (w .short) (j .before .before .before .before .before .before .before .before .b .given .0 .1)
 
 cast-t45 : tie.Need-cast-t45
-cast-t45 c = let w = within (c .before .before) in omega arith
+cast-t45 c = one-more-half _ (within (c .before .before) .few)
 
 returns-3 : tie.Need-returns-3
 unfolding stored

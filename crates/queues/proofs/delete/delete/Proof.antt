@@ -2,11 +2,14 @@
 -- Assumes nothing.
 use mathlib.Core.Path.{_≡_, ap, _∙_}
 use Prim.Native.Nat.{ℕ, _≤_, _<_, _-_, _+_}
+use native.Mathlib.Nat.{le-refl, le-trans, lt-of-lt-of-le}
 use native.Mathlib.Omega.{arith}
 use borrow.Author.Needs.{needs}
+use lib.Dec.{lit≤}
 use lib.ListN.{length}
 use Rattle.queues.specs.Laws.Typed.{Typed, word, byte}
 use Rattle.queues.specs.Laws.Delete.{delete-both}
+use Rattle.queues.proofs.Small.{eights, next-fits, nearer, carry-le, carry-lt, at-most-16}
 use Rattle.queues.proofs.ShutLaws.{shutTo, shut-start, shut-step, shut-end}
 use Rattle.queues.proofs.DeleteExact.{exact-blank, exact-unknown, exact-freed}
 use Rattle.queues.proofs.delete.delete.Statement.{statement}
@@ -23,6 +26,13 @@ Inv-loop name row m t₀ i₀ t i =
 
 abbrev μ-loop : tie.MeasureT-loop
 μ-loop name row m t₀ i₀ t i = m - i
+
+-- the counts, in lemmas of a few numbers
+later : (r i : ℕ) → r ≤ i → r ≤ i + 1
+later r i h = omega arith
+
+last-row : (i m y : ℕ) → m ≤ i + 1 → i < m → m ≡ y → i + 1 ≡ y
+last-row i m y h g e = omega arith
 
 -- what the struct's type says, from where the function starts
 typed :
@@ -54,47 +64,50 @@ returns-2 c =
     let a = c .before .before .before .before .before .before .before .args in
     let t = typed (c .before .before .before .before .before .before .before) in
     delete-both (a .t1) (a .name) t _ t
-    (exact-unknown (a .t1) (a .name) t (c .before .before .before .before .before .before .if1 .left) (omega arith))
+    (exact-unknown (a .t1) (a .name) t (c .before .before .before .before .before .before .if1 .left)
+    (carry-le _ _ _ _ (c .before .least .ensures) (c .before .before .find .ensures) (c .if2 .taken)))
 
 loop-holds : tie.Need-loop-holds Inv-loop μ-loop
 loop-holds c =
     let a = c .before .before .before .before .before .before .before .args in
-    let n : length (a .t1 .names) ≡ 16 = search needs in
-    let p : length (a .t1 .pointers) ≡ 16 = search needs in
-    (omega arith, omega arith, omega arith, n, p, shut-start (a .t1) n p (c .before .before .find .result) (omega arith))
+    let t = typed (c .before .before .before .before .before .before .before) in
+    let n = t .names-long in
+    let p = t .pointers-long in
+    let few = at-most-16 _ (a .t1 .count) (c .before .least .ensures) in
+    (le-refl _, c .if2 .left, few, n, p, shut-start (a .t1) n p (c .before .before .find .result) (lt-of-lt-of-le (c .if2 .left) few))
 
 add-loop : tie.Need-add-loop Inv-loop μ-loop
-add-loop c = search needs
+add-loop c = next-fits _ _ (c .loop .inv .1) (le-trans (c .loop .inv .2) (lit≤ tt))
 
 add-t : tie.Need-add-t Inv-loop μ-loop
-add-t c = search needs
+add-t c = next-fits _ _ (c .before .loop .inv .1) (le-trans (c .before .loop .inv .2) (lit≤ tt))
 
 mul-t : tie.Need-mul-t Inv-loop μ-loop
-mul-t c = search needs
+mul-t c = eights _ _ (c .loop-test .taken) (le-trans (c .before .loop .inv .2) (lit≤ tt))
 
 element-copy-out-t : tie.Need-element-copy-out-t Inv-loop μ-loop
-element-copy-out-t c = search needs
+element-copy-out-t c = lt-of-lt-of-le (c .loop-test .taken) (c .before .loop .inv .2)
 
 mul-t-2 : tie.Need-mul-t-2 Inv-loop μ-loop
-mul-t-2 c = search needs
+mul-t-2 c = eights _ _ (c .before .before .loop .inv .1) (le-trans (c .before .before .loop .inv .2) (lit≤ tt))
 
 element-write-t : tie.Need-element-write-t Inv-loop μ-loop
-element-write-t c = search needs
+element-write-t c = lt-of-lt-of-le (c .before .before .loop .inv .1) (c .before .before .loop .inv .2)
 
 add-t-2 : tie.Need-add-t-2 Inv-loop μ-loop
-add-t-2 c = search needs
+add-t-2 c = next-fits _ _ (c .before .before .loop .inv .1) (le-trans (c .before .before .loop .inv .2) (lit≤ tt))
 
 element-copy-out-t-2 : tie.Need-element-copy-out-t-2 Inv-loop μ-loop
-element-copy-out-t-2 c = search needs
+element-copy-out-t-2 c = lt-of-lt-of-le (c .before .loop-test .taken) (c .before .before .loop .inv .2)
 
 element-write-t-2 : tie.Need-element-write-t-2 Inv-loop μ-loop
-element-write-t-2 c = search needs
+element-write-t-2 c = lt-of-lt-of-le (c .before .before .before .loop .inv .1) (c .before .before .before .loop .inv .2)
 
 add-i : tie.Need-add-i Inv-loop μ-loop
-add-i c = search needs
+add-i c = next-fits _ _ (c .before .before .before .loop .inv .1) (le-trans (c .before .before .before .loop .inv .2) (lit≤ tt))
 
 loop-less : tie.Need-loop-less Inv-loop μ-loop
-loop-less c = search needs
+loop-less c = nearer _ _ (c .before .before .before .loop .inv .1)
 
 loop-again : tie.Need-loop-again Inv-loop μ-loop
 loop-again c =
@@ -102,7 +115,8 @@ loop-again c =
     let l = c .before .before .before .loop in
     let b = l .inv in
     let r = c .before .before .before .before .before .before .find .result in
-    (omega arith, omega arith, b .2, b .3, b .4, shut-step (a .t1) (b .3) (b .4) r (l .i) (l .t) (b .0) (omega arith) (b .5))
+    let h = c .before .before .loop-test .taken in
+    (later _ _ (b .0), h, b .2, b .3, b .4, shut-step (a .t1) (b .3) (b .4) r (l .i) (l .t) (b .0) (lt-of-lt-of-le h (b .2)) (b .5))
 
 sweep-requires : tie.Need-sweep-requires Inv-loop μ-loop
 sweep-requires c κs = search needs
@@ -113,11 +127,13 @@ returns-3 c =
     let t = typed (c .before .before .before .before .before .before .before .before .before .before) in
     let u : Typed (c .sweep .result .queues) = search (needs, word, byte) in
     let row = c .before .before .before .before .before .find in
+    let least = c .before .before .before .before .least .ensures in
     let l = c .before .before .loop in
     let b = l .inv in
     delete-both (a .t1) (a .name) t _ u
-    (exact-freed (a .t1) (a .name) t (c .before .before .before .before .before .before .before .before .before .if1 .left) _ _ (omega arith)
-    (shut-end (a .t1) (b .3) (b .4) (a .name) (l .i) (l .t) (b .5 ∙ ap (λ (k : ℕ). shutTo (a .t1) k (l .i + 1)) (row .ensures)) (omega arith)) (c .sweep .ensures))
+    (exact-freed (a .t1) (a .name) t (c .before .before .before .before .before .before .before .before .before .if1 .left) _ _
+    (carry-lt _ _ _ _ (row .ensures) least (c .before .before .before .if2 .left))
+    (shut-end (a .t1) (b .3) (b .4) (a .name) (l .i) (l .t) (b .5 ∙ ap (λ (k : ℕ). shutTo (a .t1) k (l .i + 1)) (row .ensures)) (last-row _ _ _ (c .before .loop-test .left) (b .1) least)) (c .sweep .ensures))
 
 pub delete-spec : {M : Type 1} → statement M
 delete-spec =

@@ -1,14 +1,14 @@
 -- `queues::rewrite::rewrite` meets its contract. The length of the bytes that are lent is known where the array is lent on as a slice.
 -- Assumes nothing.
-use mathlib.Core.Path.{_≡_, ap, _∙_}
+use mathlib.Core.Path.{_≡_, refl, ap, _∙_}
 use mathlib.Core.Bool.{true, false, not}
 use mathlib.Core.List.{List}
 use mathlib.Core.Logic.{⊎-elim}
 use Prim.Native.Nat.{ℕ, _≤_, _<_}
-use native.Mathlib.Omega.{arith}
+use native.Mathlib.Nat.{le-trans}
 use borrow.Author.Needs.{needs}
 use borrow.Author.Tests.{eq-eqb, ne-eqb, le-leb, lt-leb, ltb-false}
-use lib.Dec.{ltb}
+use lib.Dec.{ltb, lit≤}
 use lib.ListN.{length}
 use Rattle.base.specs.Laws.Tests.{or-r}
 use Rattle.model.specs.Limits.{some}
@@ -20,6 +20,7 @@ use Rattle.queues.specs.Laws.Typed.{Typed, word, byte}
 use Rattle.queues.specs.Laws.Rows.{row-known, row-unknown}
 use Rattle.queues.specs.Laws.Append.{wrong}
 use Rattle.queues.specs.Laws.Rewrite.{rewrite-invalid, rewrite-length, rewrite-unknown, rewrite-none, rewrite-done, rewrite-all}
+use Rattle.queues.proofs.Small.{sixties, fits-byte, carry-le, carry-lt, slot-room}
 use Rattle.queues.proofs.rewrite.rewrite.Statement.{statement}
 use Rattle.queues.proofs.rewrite.rewrite.Tie as tie
 
@@ -62,45 +63,48 @@ least-requires c κs = search needs
 returns-3 : tie.Need-returns-3
 returns-3 c =
     let a = c .before .before .before .before .before .before .before .before .before .before .before .args in
-    let r : rowsIn (a .t1) ≤ rowOf (a .t1) (a .name) = omega (arith, c .before .before .find .ensures, c .before .least .ensures, c .if4 .taken) in
+    let r : rowsIn (a .t1) ≤ rowOf (a .t1) (a .name) = carry-le _ _ _ _ (c .before .least .ensures) (c .before .before .find .ensures) (c .if4 .taken) in
     rewrite-all (a .t1) (typed (c .before .before .before .before .before .before .before .before .before .before .before)) (a .items .now) (c .before .before .before .before .before .before .before .before .before .b .given .0 .1) (a .name) (a .place) (a .item .now) _ _
     (rewrite-unknown (a .t1) (a .items .now) (a .name) (a .place) (a .item .now) (ne-eqb _ _ (c .before .before .before .before .before .before .before .before .if1 .left)) (right (a .item .now) (c .before .before .before .before .before .before .before .if2 .left) (c .before .before .before .before .before .before .if3 .left))
     (row-unknown (a .t1) (typed (c .before .before .before .before .before .before .before .before .before .before .before)) (a .name) r))
 
 slot-at-requires : tie.Need-slot-at-requires
-slot-at-requires c κs = search needs
+slot-at-requires c κs =
+    let t = typed (c .before .before .before .before .before .before .before .before .before .before .before .before .before .before .before .before .before .before .before) in
+    (t .owner-long, t .slot-long, t .len-long)
 
 returns-4 : tie.Need-returns-4
 returns-4 c =
     let a = c .before .before .before .before .before .before .before .before .before .before .before .before .before .before .before .before .before .before .before .before .before .args in
-    let r : rowOf (a .t1) (a .name) < rowsIn (a .t1) = omega (arith, c .before .before .before .before .before .before .before .before .before .before .before .before .find .ensures, c .before .before .before .before .before .before .before .before .before .before .before .least .ensures, c .before .before .before .before .before .before .before .before .before .before .if4 .left) in
+    let r : rowOf (a .t1) (a .name) < rowsIn (a .t1) = carry-lt _ _ _ _ (c .before .before .before .before .before .before .before .before .before .before .before .before .find .ensures) (c .before .before .before .before .before .before .before .before .before .before .before .least .ensures) (c .before .before .before .before .before .before .before .before .before .before .if4 .left) in
     let is : c .before .slot-at .result ≡ slotIn (a .t1) (a .name) (a .place) = c .before .slot-at .ensures in
-    let g : 128 ≤ slotIn (a .t1) (a .name) (a .place) = omega (arith, is, c .if5 .taken) in
+    let g : 128 ≤ slotIn (a .t1) (a .name) (a .place) = carry-le _ _ _ _ refl is (c .if5 .taken) in
     rewrite-all (a .t1) (typed (c .before .before .before .before .before .before .before .before .before .before .before .before .before .before .before .before .before .before .before .before .before)) (a .items .now) (c .before .before .before .before .before .before .before .before .before .before .before .before .before .before .before .before .before .before .before .b .given .0 .1) (a .name) (a .place) (a .item .now) _ _
     (rewrite-none (a .t1) (a .items .now) (a .name) (a .place) (a .item .now) (ne-eqb _ _ (c .before .before .before .before .before .before .before .before .before .before .before .before .before .before .before .before .before .before .if1 .left)) (right (a .item .now) (c .before .before .before .before .before .before .before .before .before .before .before .before .before .before .before .before .before .if2 .left) (c .before .before .before .before .before .before .before .before .before .before .before .before .before .before .before .before .if3 .left))
     (row-known (a .t1) (typed (c .before .before .before .before .before .before .before .before .before .before .before .before .before .before .before .before .before .before .before .before .before)) (a .name) r) g)
 
 cast-t : tie.Need-cast-t
-cast-t c = omega (arith, ltb-false 64 (length (c .before .before .before .before .before .before .before .before .before .before .before .before .before .before .before .before .before .before .before .before .before .args .item .now)) (c .before .before .before .before .before .before .before .before .before .before .before .before .before .before .before .before .if3 .left))
+cast-t c = fits-byte _ (le-trans (ltb-false 64 (length (c .before .before .before .before .before .before .before .before .before .before .before .before .before .before .before .before .before .before .before .before .before .args .item .now)) (c .before .before .before .before .before .before .before .before .before .before .before .before .before .before .before .before .if3 .left)) (lit≤ tt))
 
 element-write-t : tie.Need-element-write-t
-element-write-t c = search needs
+element-write-t c = c .if5 .left
 
 mul-store : tie.Need-mul-store
-mul-store c = search needs
+mul-store c = sixties _ 128 (c .if5 .left) (lit≤ tt)
 
 store-requires : tie.Need-store-requires
 store-requires c κs =
-    omega (arith, c .if5 .left, c .before .before .before .before .before .before .before .before .before .before .before .before .before .before .before .before .before .before .before .b .given .0 .1, ltb-false 64 (length (c .before .before .before .before .before .before .before .before .before .before .before .before .before .before .before .before .before .before .before .before .before .args .item .now)) (c .before .before .before .before .before .before .before .before .before .before .before .before .before .before .before .before .if3 .left))
+    slot-room _ _ _ (c .if5 .left) (ltb-false 64 (length (c .before .before .before .before .before .before .before .before .before .before .before .before .before .before .before .before .before .before .before .before .before .args .item .now)) (c .before .before .before .before .before .before .before .before .before .before .before .before .before .before .before .before .if3 .left))
+    (c .before .before .before .before .before .before .before .before .before .before .before .before .before .before .before .before .before .before .before .b .given .0 .1)
 
 returns-5 : tie.Need-returns-5
 unfolding resized
 returns-5 c =
     let a = c .before .before .before .before .before .before .before .before .before .before .before .before .before .before .before .before .before .before .before .before .before .before .args in
     let item = a .item .now in
-    let r : rowOf (a .t1) (a .name) < rowsIn (a .t1) = omega (arith, c .before .before .before .before .before .before .before .before .before .before .before .before .before .find .ensures, c .before .before .before .before .before .before .before .before .before .before .before .before .least .ensures, c .before .before .before .before .before .before .before .before .before .before .before .if4 .left) in
+    let r : rowOf (a .t1) (a .name) < rowsIn (a .t1) = carry-lt _ _ _ _ (c .before .before .before .before .before .before .before .before .before .before .before .before .before .find .ensures) (c .before .before .before .before .before .before .before .before .before .before .before .before .least .ensures) (c .before .before .before .before .before .before .before .before .before .before .before .if4 .left) in
     let is : c .before .before .slot-at .result ≡ slotIn (a .t1) (a .name) (a .place) = c .before .before .slot-at .ensures in
-    let g : slotIn (a .t1) (a .name) (a .place) < 128 = omega (arith, is, c .before .if5 .left) in
+    let g : slotIn (a .t1) (a .name) (a .place) < 128 = carry-lt _ _ _ _ is refl (c .before .if5 .left) in
     rewrite-all (a .t1) (typed (c .before .before .before .before .before .before .before .before .before .before .before .before .before .before .before .before .before .before .before .before .before .before)) (a .items .now) (c .before .before .before .before .before .before .before .before .before .before .before .before .before .before .before .before .before .before .before .before .b .given .0 .1) (a .name) (a .place) item _ _
     (ap (λ (x : List ℕ). answer (resized (a .t1) (c .before .before .slot-at .result) (length item)) x Done) (c .store .ensures)
     ∙ ap (putIn (a .t1) (a .items .now) item) is

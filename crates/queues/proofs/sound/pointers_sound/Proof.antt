@@ -1,12 +1,13 @@
 -- `queues::sound::pointers_sound` meets its contract: what is left of the rows has its pointers right exactly if all rows have. Assumes nothing.
 use mathlib.Core.Path.{_≡_, refl, sym, _∙_}
-use Prim.Native.Nat.{_≤_, _<_, _-_, min}
+use Prim.Native.Nat.{ℕ, _≤_, _<_, _-_, min}
 use native.Mathlib.Omega.{arith}
 use borrow.Author.Needs.{needs}
 use borrow.Author.Tests.{le-leb, lt-leb}
 use lib.ListN.{length, take, drop, getD}
 use Rattle.base.specs.Lists.{copies}
 use Rattle.queues.specs.Sound.{pointed}
+use Rattle.queues.proofs.Small.{next, nearer, carry-le, carry-lt}
 use Rattle.queues.proofs.SoundLaws.{pointed-hit, pointed-miss, pointed-end}
 use Rattle.queues.proofs.sound.pointers_sound.Statement.{statement}
 use Rattle.queues.proofs.sound.pointers_sound.Tie as tie
@@ -18,6 +19,15 @@ Inv-loop names pointers count owner n m i₀ i =
 
 abbrev μ-loop : tie.MeasureT-loop
 μ-loop names pointers count owner n m i₀ i = m - i
+
+-- A row that the loop has not done yet.
+record Inside (i count a b : ℕ) : Type 0 where
+  known : i < count
+  named : i < a
+  pointing : i < b
+
+inside : (i m count a b : ℕ) → i < m → m ≡ min count (min a b) → Inside i count a b
+inside i m count a b h e = record { known = omega arith; named = omega arith; pointing = omega arith }
 
 least-requires : tie.Need-least-requires Inv-loop μ-loop
 least-requires c κs = search needs
@@ -47,26 +57,29 @@ returns : tie.Need-returns Inv-loop μ-loop
 returns c =
     let a = c .before .before .before .before .before .before .before .before .before .before .before .before .args in
     let l = c .before .before .before .before .before .before .loop in
+    let r = inside (l .i) _ (a .count) (length (a .names .now)) (length (a .pointers .now)) (c .before .before .before .before .before .loop-test .taken) (l .inv .1) in
     let h : copies (getD (a .names .now) (l .i) 0) (take (a .n) (a .owner .now)) < getD (a .pointers .now) (l .i) 0 =
-    omega (arith, c .before .before .before .wide .ensures, c .before .tally .ensures, c .if1 .taken) in
-    sym (pointed-miss (take (a .n) (a .owner .now)) (a .names .now) (a .pointers .now) (a .count) (l .i) (omega arith) (omega arith) (omega arith) (lt-leb _ _ h))
+    carry-lt _ _ _ _ (c .before .tally .ensures) (c .before .before .before .wide .ensures) (c .if1 .taken) in
+    sym (pointed-miss (take (a .n) (a .owner .now)) (a .names .now) (a .pointers .now) (a .count) (l .i) (r .known) (r .named) (r .pointing) (lt-leb _ _ h))
     ∙ l .inv .2
 
 add-i : tie.Need-add-i Inv-loop μ-loop
 add-i c = search needs
 
 loop-less : tie.Need-loop-less Inv-loop μ-loop
-loop-less c = search needs
+loop-less c = nearer _ _ (c .before .before .before .before .before .loop-test .taken)
 
 loop-again : tie.Need-loop-again Inv-loop μ-loop
 loop-again c =
     let a = c .before .before .before .before .before .before .before .before .before .before .before .before .args in
     let l = c .before .before .before .before .before .before .loop in
     let h : getD (a .pointers .now) (l .i) 0 ≤ copies (getD (a .names .now) (l .i) 0) (take (a .n) (a .owner .now)) =
-    omega (arith, c .before .before .before .wide .ensures, c .before .tally .ensures, c .if1 .left) in (
-      omega arith,
+    carry-le _ _ _ _ (c .before .before .before .wide .ensures) (c .before .tally .ensures) (c .if1 .left) in
+    let t = c .before .before .before .before .before .loop-test .taken in
+    let r = inside (l .i) _ (a .count) (length (a .names .now)) (length (a .pointers .now)) t (l .inv .1) in (
+      next _ _ t,
       l .inv .1,
-      pointed-hit (take (a .n) (a .owner .now)) (a .names .now) (a .pointers .now) (a .count) (l .i) (omega arith) (omega arith) (omega arith) (le-leb _ _ h)
+      pointed-hit (take (a .n) (a .owner .now)) (a .names .now) (a .pointers .now) (a .count) (l .i) (r .known) (r .named) (r .pointing) (le-leb _ _ h)
           ∙ l .inv .2,
     )
 
@@ -74,7 +87,7 @@ returns-2 : tie.Need-returns-2 Inv-loop μ-loop
 returns-2 c =
     let a = c .before .before .before .before .before .before .before .args in
     let l = c .before .loop in
-    sym (pointed-end (take (a .n) (a .owner .now)) (a .names .now) (a .pointers .now) (a .count) (l .i) (omega arith)) ∙ l .inv .2
+    sym (pointed-end (take (a .n) (a .owner .now)) (a .names .now) (a .pointers .now) (a .count) (l .i) (carry-le _ _ _ _ (l .inv .1) refl (c .loop-test .left))) ∙ l .inv .2
 
 pub pointers-sound-spec : {M : Type 1} → statement M
 pointers-sound-spec =

@@ -1,0 +1,9 @@
+pub mod Answers
+pub mod Requests
+pub mod Store
+pub mod Settings
+pub mod Table
+pub mod Step
+pub mod Laws
+pub mod Monitor
+pub mod Examples
