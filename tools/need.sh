@@ -13,3 +13,17 @@ need_cargo() {
   echo "cargo is not on the PATH: install Rust 1.88 or newer first" >&2
   exit 1
 }
+
+# The comparison with the second program is a script.
+need_python() {
+  python3 -c 'import sys; sys.exit(sys.version_info < (3, 9))' >/dev/null 2>&1 && return
+  echo "python3 is not on the PATH, or is older than 3.9: install it first (Debian: apt install python3)" >&2
+  exit 1
+}
+
+# Hex into bytes. Debian has it from the start.
+need_perl() {
+  command -v perl >/dev/null 2>&1 && return
+  echo "perl is not on the PATH: install it first" >&2
+  exit 1
+}

@@ -7,3 +7,7 @@ pub mod Sorting
 pub mod Bytes
 pub mod Over
 pub mod Scans
+pub mod Gather
+pub mod Cut
+pub mod Index
+pub mod Told

@@ -2,7 +2,7 @@
 use Prim.Native.Nat.{ℕ, suc, zero, _+_}
 use mathlib.Core.Bool.{Bool, true, false, not, _&&_}
 use mathlib.Core.List.{List, [], _∷_, _++_}
-use lib.ListN.{length, drop}
+use lib.ListN.{length, take, drop}
 use lib.Dec.{eqb}
 use Rattle.base.specs.Choice.{pick}
 
@@ -35,6 +35,10 @@ module _ {A : Type 0} where
   -- the new live part laid over the old row: what stands past it is kept
   abbrev pub over : List A → List A → List A
   over ks l = ks ++ drop (length ks) l
+
+  -- all but what stands at i
+  abbrev pub cutAt : ℕ → List A → List A
+  cutAt i l = take i l ++ drop (suc i) l
 
 -- is n in the list
 abbrev pub has : ℕ → List ℕ → Bool

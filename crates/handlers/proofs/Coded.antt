@@ -7,9 +7,9 @@ use native.Mathlib.Omega.{arith}
 use lib.Dec.{eqb, ltb}
 use lib.ListN.{length, set, length-take, length-append}
 use borrow.Author.Tests.{lt-ltb, le-ltb, ltb-true, ltb-false, eq-eqb, ne-eqb}
-use Rattle.base.specs.Lists.{over}
+use Rattle.base.specs.Lists.{over, cutAt}
 use Rattle.base.specs.Laws.Tests.{byTest, or-r}
-use Rattle.base.specs.Laws.Keep.{firstAt-le}
+use Rattle.base.specs.Laws.Keep.{firstAt-le, firstAt-any}
 use Rattle.base.specs.Laws.Over.{over-self, over-set}
 use Rattle.handlers.specs.declared.Setting.{Setting}
 use Rattle.handlers.specs.declared.Setting.the-variants.{Label}
@@ -19,10 +19,9 @@ use Rattle.handlers.specs.declared.rows.Found.{Found}
 use Rattle.handlers.specs.declared.answers.Outcome.the-variants.{Done, Invalid}
 use Rattle.handlers.specs.declared.answers.Handled.{Handled}
 use Rattle.handlers.specs.Table.{live, withLive}
-use Rattle.handlers.specs.Rows.{named, placeIn, taskIn, foundIn, withSetting, cutAt}
+use Rattle.handlers.specs.Rows.{named, placeIn, taskIn, foundIn, withSetting}
 use Rattle.handlers.specs.Set.{putIn, setIn, setTo, handleIn}
 use Rattle.handlers.specs.Forget.{forgetIn}
-use Rattle.handlers.specs.Laws.Lists.{firstAt-any}
 use Rattle.handlers.proofs.Typed.{tabled}
 
 -- ---- set

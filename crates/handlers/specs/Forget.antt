@@ -3,11 +3,11 @@ use Prim.Native.Nat.{ℕ}
 use mathlib.Core.Path.{_≡_}
 use mathlib.Core.Bool.{true}
 use Rattle.base.specs.Choice.{pick}
-use Rattle.base.specs.Lists.{any}
+use Rattle.base.specs.Lists.{any, cutAt}
 use Rattle.model.specs.Handlers as model
 use Rattle.handlers.specs.declared.Tasks.{Tasks}
 use Rattle.handlers.specs.Table.{live, withLive, tasksOf, soundH}
-use Rattle.handlers.specs.Rows.{named, placeIn, cutAt}
+use Rattle.handlers.specs.Rows.{named, placeIn}
 
 -- the first row of that name, if there is one
 unfoldable pub forgetIn : Tasks → ℕ → Tasks

@@ -1,4 +1,3 @@
-pub mod Lists
 pub mod Standing
 pub mod Set
 pub mod Decide

@@ -1,9 +1,9 @@
 -- Rows: their names, a task with nothing set, a setting read and made, and the rows without one of them.
-use Prim.Native.Nat.{ℕ, suc}
+use Prim.Native.Nat.{ℕ}
 use mathlib.Core.Bool.{Bool}
-use mathlib.Core.List.{List, [], _++_}
+use mathlib.Core.List.{[]}
 use lib.Dec.{eqb}
-use lib.ListN.{take, drop, getD, set, replicate}
+use lib.ListN.{getD, set, replicate}
 use Rattle.base.specs.Lists.{first, firstAt}
 use Rattle.model.specs.Handlers as model
 use Rattle.handlers.specs.declared.Setting.{Setting}
@@ -47,10 +47,6 @@ taskIn t n = first (named n) (unsetRow n) (live t)
 
 abbrev pub foundIn : Tasks → ℕ → Found
 foundIn t n = record { at = placeIn t n; task = taskIn t n }
-
--- without what stands at i
-abbrev pub cutAt : {A : Type 0} → ℕ → List A → List A
-cutAt i l = take i l ++ drop (suc i) l
 
 -- another row at i
 abbrev pub withRow : Tasks → ℕ → Task → Tasks

@@ -1,5 +1,4 @@
 -- The tasks of the model that the struct stands for, and which structs are sound.
-use Prim.Native.Nat.{ℕ}
 use mathlib.Core.Bool.{Bool, _&&_}
 use mathlib.Core.List.{List, map}
 use lib.Dec.{leb}

@@ -2,8 +2,9 @@
 ghost use mathlib.Core.Path.{_≡_};
 ghost use Prim.Native.Nat.{_<_, min};
 ghost use lib.ListN.{length};
+ghost use Rattle.base.specs.Lists.{cutAt};
 ghost use Rattle.handlers.specs.Table.{live, withLive};
-ghost use Rattle.handlers.specs.Rows.{unsetRow, foundIn, cutAt};
+ghost use Rattle.handlers.specs.Rows.{unsetRow, foundIn};
 use crate::Cell;
 use crate::Setting;
 use crate::Task;

@@ -15,6 +15,7 @@ use Rattle.base.specs.Lists.{all, has, once}
 use Rattle.base.specs.Bytes.{isByte, isBytes, blank, isName}
 use Rattle.base.specs.Laws.Tests.{byTest, and-i, leb-add, ltb-add}
 use Rattle.base.specs.Laws.Bytes.{isBytes-take}
+use Rattle.base.specs.Laws.Keep.{all-by-getD}
 use Rattle.model.specs.Limits.{cabinet, isData}
 use Rattle.model.specs.Interval as model
 use Rattle.interval.specs.declared.Phase.{Phase}
@@ -24,7 +25,6 @@ use Rattle.interval.specs.declared.Requests.{Requests}
 use Rattle.interval.specs.Circle.{toGo}
 use Rattle.interval.specs.Table.{programsOf, terminalsOf}
 use Rattle.interval.specs.Stands.{phaseAt}
-use Rattle.interval.specs.ListLaws.{all-by-getD}
 use Rattle.interval.specs.Rows.{active, dataOf}
 use Rattle.interval.specs.Sound.{phaseFits, soundRow, soundIn, keyOf}
 

@@ -4,7 +4,7 @@ use mathlib.Core.Bool.{not, _||_}
 use lib.Dec.{eqb}
 use lib.ListN.{getD}
 use Rattle.base.specs.Choice.{pick}
-use Rattle.base.specs.Lists.{any, firstAt}
+use Rattle.base.specs.Lists.{any, firstAt, cutAt}
 use Rattle.base.specs.Bytes.{blank}
 use Rattle.model.specs.Plans.{normal, invalidRequest, notFound}
 use Rattle.interval.specs.declared.Requests.{Requests}
@@ -12,7 +12,7 @@ use Rattle.interval.specs.declared.answers.Cancel.{Cancel}
 use Rattle.interval.specs.declared.answers.Cancel.the-variants.{Done, Invalid, NotFound}
 use Rattle.interval.specs.declared.answers.Cancelled.{Cancelled}
 use Rattle.interval.specs.Table.{live, withLive}
-use Rattle.interval.specs.Rows.{named, active, outRow, cutAt}
+use Rattle.interval.specs.Rows.{named, active, outRow}
 
 abbrev pub cancelGives : Cancel → ℕ
 cancelGives Done = normal

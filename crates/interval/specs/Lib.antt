@@ -10,7 +10,6 @@ pub mod Fresh
 pub mod Start
 pub mod Dispatch
 pub mod Retrieve
-pub mod ListLaws
 pub mod Laws
 pub mod Advance
 pub mod Ranks

@@ -3,12 +3,12 @@ use Prim.Native.Nat.{ℕ}
 use mathlib.Core.Path.{_≡_}
 use mathlib.Core.Bool.{true}
 use Rattle.base.specs.Choice.{pick}
-use Rattle.base.specs.Lists.{any, firstAt}
+use Rattle.base.specs.Lists.{any, firstAt, cutAt}
 use Rattle.model.specs.Interval as model
 use Rattle.interval.specs.declared.Requests.{Requests}
 use Rattle.interval.specs.Table.{live, withLive}
 use Rattle.interval.specs.Stands.{Means, soundR, intervalAt}
-use Rattle.interval.specs.Rows.{named, cutAt}
+use Rattle.interval.specs.Rows.{named}
 
 -- the first of that name, if there is one
 unfoldable pub removeIn : Requests → ℕ → Requests

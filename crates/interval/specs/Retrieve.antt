@@ -4,7 +4,7 @@ use mathlib.Core.Bool.{Bool, true, _&&_}
 use lib.Dec.{eqb, ltb}
 use lib.ListN.{length, getD, replicate}
 use Rattle.base.specs.Choice.{pick}
-use Rattle.base.specs.Lists.{any, first, firstAt}
+use Rattle.base.specs.Lists.{any, first, firstAt, cutAt}
 use Rattle.model.specs.Limits.{some}
 use Rattle.model.specs.Plans.{normal, wrongLength, endOfData}
 use Rattle.interval.specs.declared.Phase.the-variants.{Active}
@@ -14,7 +14,7 @@ use Rattle.interval.specs.declared.answers.Retrieve.{Retrieve}
 use Rattle.interval.specs.declared.answers.Retrieve.the-variants.{Given, Cut, EndOfData}
 use Rattle.interval.specs.declared.answers.Retrieved.{Retrieved}
 use Rattle.interval.specs.Table.{live, withLive, inPhase}
-use Rattle.interval.specs.Rows.{expired, notTaken, named, dataOf, noRow, outRow, cutAt, withRow}
+use Rattle.interval.specs.Rows.{expired, notTaken, named, dataOf, noRow, outRow, withRow}
 
 abbrev pub retrieveGives : Retrieve → ℕ
 retrieveGives Given = normal

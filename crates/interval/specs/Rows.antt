@@ -44,10 +44,6 @@ noRow = record { name = 0; program = 0; terminal = 0; phase = Expired; len = 0; 
 abbrev pub outRow : Request
 outRow = record { name = 0; program = 0; terminal = 0; phase = Waiting 0; len = 0; bytes = [] }
 
--- without what stands at i
-abbrev pub cutAt : {A : Type 0} → ℕ → List A → List A
-cutAt i l = take i l ++ drop (suc i) l
-
 -- another request at i
 abbrev pub withRow : Requests → ℕ → Request → Requests
 withRow t i q = record {

@@ -10,6 +10,7 @@ use crate::Requests;
 use crate::answers::Cancel;
 use crate::answers::Cancelled;
 use crate::rows;
+use base::sets::least;
 
 // "Cancel removes a waiting or expired request. An active one gets 8."
 pub fn cancel(t: Requests, name: u64) -> Cancelled
@@ -23,7 +24,7 @@ pub fn cancel(t: Requests, name: u64) -> Cancelled
         };
     }
     let i = rows::place(t, name);
-    let m = rows::least(t.count, 32);
+    let m = least(t.count, 32);
     if m <= i {
         return Cancelled {
             requests: t,

@@ -14,6 +14,7 @@ use crate::Requests;
 use crate::answers::Dispatch;
 use crate::answers::Dispatched;
 use crate::rows;
+use base::sets::least;
 
 // The programs and the terminals of the n active tasks.
 struct Busy {
@@ -25,7 +26,7 @@ struct Busy {
 fn busy_in(t: Requests) -> Busy
     ensures { λ r. ⌜ Runs (keep active (live t)) r ⌝ }
 {
-    let m = rows::least(t.count, 32);
+    let m = least(t.count, 32);
     let mut b = Busy {
         programs: [0u32; 32],
         terminals: [0u32; 32],
@@ -75,7 +76,7 @@ fn pick(t: Requests, b: Busy) -> Picked
     requires { ⌜ Runs (keep active (live t)) b ⌝ }
     ensures { λ r. ⌜ r ≡ pickIn (live t) ⌝ }
 {
-    let m = rows::least(t.count, 32);
+    let m = least(t.count, 32);
     let mut i: usize = 0;
     let mut passed: u32 = 0;
     while i < m {

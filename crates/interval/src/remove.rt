@@ -6,6 +6,7 @@ ghost use Rattle.interval.specs.Stands.{Means, soundR};
 ghost use Rattle.interval.specs.Remove.{removeIn, Removed};
 use crate::Requests;
 use crate::rows;
+use base::sets::least;
 
 // The first request of that name goes; where there is none, nothing does.
 pub fn remove(t: Requests, name: u64) -> Requests
@@ -13,7 +14,7 @@ pub fn remove(t: Requests, name: u64) -> Requests
     ensures model { λ r. ⌜ ((c : ℕ) → Means t c → soundR t ≡ true → Removed c t name r) ⌝ }
 {
     let i = rows::place(t, name);
-    let m = rows::least(t.count, 32);
+    let m = least(t.count, 32);
     if i < m {
         return rows::close(t, i);
     }

@@ -15,6 +15,7 @@ use crate::answers::Retrieve;
 use crate::answers::Retrieved;
 use crate::fresh;
 use crate::rows;
+use base::sets::least;
 
 // "the task's own data if it has some not yet taken"
 fn has_own(q: Request) -> bool
@@ -45,7 +46,7 @@ fn serve(q: Request, program: u32, terminal: u32) -> bool
 fn server(t: Requests, program: u32, terminal: u32) -> usize
     ensures { λ r. ⌜ r ≡ firstAt (serves program terminal) (live t) ⌝ }
 {
-    let m = rows::least(t.count, 32);
+    let m = least(t.count, 32);
     let mut i: usize = 0;
     while i < m {
         let q = t.rows[i];
@@ -72,7 +73,7 @@ pub fn retrieve(t: Requests, task: u64, room: usize) -> Retrieved
     ensures model { λ r. ⌜ ((c : ℕ) → Means t c → soundR t ≡ true → Done c c t (r .requests) (model.retrieve (intervalAt c t) task room) (retrieveGives (r .outcome)) (r .full) (take (r .len) (r .bytes))) ⌝ }
 {
     let i = rows::place(t, task);
-    let m = rows::least(t.count, 32);
+    let m = least(t.count, 32);
     let mut q = fresh::no_row();
     if i < m {
         q = t.rows[i];
@@ -100,7 +101,7 @@ pub fn retrieve(t: Requests, task: u64, room: usize) -> Retrieved
         requests: u,
         outcome: cut(full, room),
         full,
-        len: rows::least(full, room),
+        len: least(full, room),
         bytes: b,
     }
 }

@@ -1,13 +1,14 @@
 // The rows that are requests: phases, where a name stands, and a row less.
 ghost use mathlib.Core.Path.{_≡_};
-ghost use Prim.Native.Nat.{_<_, min};
+ghost use Prim.Native.Nat.{_<_};
 ghost use lib.ListN.{length, take};
-ghost use Rattle.base.specs.Lists.{has, firstAt};
+ghost use Rattle.base.specs.Lists.{has, firstAt, cutAt};
 ghost use Rattle.interval.specs.Table.{live, withLive, inPhase};
-ghost use Rattle.interval.specs.Rows.{isExpired, isActive, notTaken, named, cutAt, dataOf};
+ghost use Rattle.interval.specs.Rows.{isExpired, isActive, notTaken, named, dataOf};
 use crate::Phase;
 use crate::Request;
 use crate::Requests;
+use base::sets::least;
 
 // The names of spaces only.
 pub(crate) const BLANK: u64 = 0x2020202020202020;
@@ -56,12 +57,6 @@ pub(crate) fn in_phase(q: Request, p: Phase) -> Request
         len: q.len,
         bytes: b,
     }
-}
-
-pub(crate) fn least(a: usize, b: usize) -> usize
-    ensures { λ r. ⌜ r ≡ min a b ⌝ }
-{
-    if a <= b { a } else { b }
 }
 
 // How many bytes of data a request has.

@@ -4,7 +4,6 @@ ghost use mathlib.Core.Bool.{true};
 ghost use mathlib.Core.List.{[]};
 ghost use Prim.Native.Nat.{ℕ, _≤_};
 ghost use lib.ListN.{length, take};
-ghost use Rattle.base.specs.Lists.{over};
 ghost use Rattle.model.specs.Limits.{cabinet};
 ghost use Rattle.model.specs.Interval as model;
 ghost use Rattle.interval.specs.Stands.{Means, soundR, intervalAt, Done};
@@ -15,6 +14,8 @@ use crate::Requests;
 use crate::answers::Start;
 use crate::answers::Started;
 use crate::rows;
+use base::bytes::lay;
+use base::sets::least;
 
 // "Due is clock plus interval. .. interval 0 expires at once."
 fn begun(register: u32, interval: u32) -> Phase
@@ -24,18 +25,6 @@ fn begun(register: u32, interval: u32) -> Phase
         return Phase::Expired;
     }
     Phase::Waiting(std::num::wrapping_add_u32(register, interval))
-}
-
-// The bytes of s at the front of d.
-fn store(d: &mut [u8; 64], s: &[u8])
-    requires { ⌜ (length (now s) ≤ 64) × (length (now d) ≡ 64) ⌝ }
-    ensures { λ r. ⌜ now (d .exit) ≡ over (now (s .entry)) (now (d .entry)) ⌝ }
-{
-    let mut i: usize = 0;
-    while i < s.len() {
-        d[i] = s[i];
-        i += 1;
-    }
 }
 
 // What a start comes to, of what is known and what is not: the tests in their order.
@@ -97,7 +86,7 @@ fn new_row(
     ensures { λ r. ⌜ r ≡ newRow register (asked name program terminal interval (now (bytes .entry))) ⌝ }
 {
     let mut b = [0u8; 64];
-    store(&mut b, bytes);
+    lay(&mut b, bytes);
     Request {
         name,
         program,
@@ -122,7 +111,7 @@ pub fn start(
     let p = rows::known(&t.programs, t.pcount, program);
     let e = none_or_known(&t.terminals, t.tcount, terminal);
     let i = rows::place(t, name);
-    let m = rows::least(t.count, 32);
+    let m = least(t.count, 32);
     let o = rule(name, interval, bytes.len(), p, e, i < m, m);
     let mut u = t;
     match o {

@@ -5,14 +5,14 @@ use mathlib.Core.Bool.{true}
 use native.Mathlib.Nat.{min-le-left, le-trans}
 use native.Mathlib.Omega.{arith}
 use lib.ListN.{length, take, getD, length-take}
-use Rattle.base.specs.Lists.{any, firstAt}
+use Rattle.base.specs.Lists.{any, firstAt, cutAt}
 use Rattle.base.specs.Laws.Tests.{pick-elim}
 use Rattle.interval.specs.declared.Phase.the-variants.{Active}
 use Rattle.interval.specs.declared.Request.{Request}
 use Rattle.interval.specs.declared.Requests.{Requests}
 use Rattle.interval.specs.declared.answers.Retrieved.{Retrieved}
 use Rattle.interval.specs.Retrieve.{hasOwn, serves, handed, nothing, retrieval, taskOf, retrieveIn}
-use Rattle.interval.specs.Rows.{outRow, named, cutAt, withRow}
+use Rattle.interval.specs.Rows.{outRow, named, withRow}
 use Rattle.interval.specs.Table.{live, withLive, inPhase}
 
 -- neither the whole nor what there was room for is longer than what carries it

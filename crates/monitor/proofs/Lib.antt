@@ -5,3 +5,4 @@ pub mod Laid
 pub mod StoreLaws
 pub mod Obeying
 pub mod Stepping
+pub mod Told

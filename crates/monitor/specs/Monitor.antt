@@ -1,5 +1,5 @@
 -- The cabinet's monitor, as the demands speak of one. Its tables are the values that the struct's type has, and its step is the exact
--- definition that the code's promise cites (`step-is` in Laws/Demands).
+-- definition that the code's exact clause cites (`step-is` in Laws/Demands).
 use Prim.Native.Nat.{ℕ, suc, _%_, _^_, _<_}
 use mathlib.Core.Path.{_≡_, refl}
 use mathlib.Core.Bool.{Bool, true, false}
@@ -12,8 +12,9 @@ use Rattle.model.specs.Demands.{Stepped, Monitor}
 use Rattle.model.specs.State.{State}
 use Rattle.interval.specs.Stands.{Means}
 use Rattle.monitor.specs.declared.Tables.{Tables}
+use Rattle.monitor.specs.declared.step.Stepped as declared
 use Rattle.monitor.specs.Table.{freshTables, stateAt, soundP}
-use Rattle.monitor.specs.Step.{allowedIn, stepOn}
+use Rattle.monitor.specs.Step.{allowedIn, stepOn, whole}
 use Rattle.monitor.specs.Laws.Fine.{Typed, fresh-fine}
 use Rattle.monitor.specs.Laws.Step.{step-typed}
 
@@ -56,3 +57,14 @@ cabinetMonitor = record {
   Sound = λ h. soundP (h .tables .parts) ≡ true;
   Stands = StandsFor;
 }
+
+-- ---- the code's step is this one
+
+-- without that the tables are what the type says
+abbrev pub bare : Stepped Held → Stepped Tables
+bare x = record { answer = x .answer; tables = x .tables .tables }
+
+-- what `step::step` gives is what the monitor's step gives
+pub record Replies (t : Tables) (r : List ℕ) (x : declared.Stepped) : Type 0 where
+  pub typed : Typed t
+  pub reply : x ≡ whole (bare (stepHeld (record { tables = t; typed = typed }) r))

@@ -1,11 +1,12 @@
 -- The tables: the three parts and the bytes of the items, parts of them put in place of others, and when they are sound.
 use Prim.Native.Nat.{ℕ}
-use mathlib.Core.Bool.{Bool, _&&_}
+use mathlib.Core.Path.{_≡_}
+use mathlib.Core.Bool.{Bool, true, _&&_}
 use mathlib.Core.List.{List, map}
 use lib.ListN.{replicate}
 use Rattle.base.specs.Lists.{all}
 use Rattle.model.specs.Handlers as model
-use Rattle.model.specs.State.{State}
+use Rattle.model.specs.State.{State, emptyAt}
 use Rattle.interval.specs.Stands.{intervalAt, soundR}
 use Rattle.interval.specs.Active.{activeIn}
 use Rattle.interval.specs.Fresh.{freshAt}
@@ -73,3 +74,11 @@ settled h = map (λ (m : model.Task). m .name) (tasksOf h)
 -- the rules of the parts, and "only an active task has settings"
 unfoldable pub soundP : Parts → Bool
 soundP p = soundR (p .requests) && soundQ (p .queues) && soundH (p .tasks) && all (activeIn (p .requests)) (settled (p .tasks))
+
+-- ---- fresh tables, in the words of the model
+
+-- their register holds the value, they are sound, and no clock makes them stand for anything but the empty state
+pub record Fresh (v : ℕ) (t : Tables) : Type 0 where
+  pub register : t .parts .requests .register ≡ v
+  pub soundly : soundP (t .parts) ≡ true
+  pub empty : (c : ℕ) → stateAt c t ≡ emptyAt c

@@ -1,6 +1,7 @@
 // One record (without its length field) and a set of tables in; the answer and the tables after it out.
 ghost use mathlib.Core.Path.{_≡_};
 ghost use Rattle.monitor.specs.Table.{tables};
+ghost use Rattle.monitor.specs.Monitor.{Replies};
 ghost use Rattle.monitor.specs.Step.{lent, allowedIn, refusedIn, stepOn, stepIn, turned, whole};
 use crate::Parts;
 use crate::Tables;
@@ -52,6 +53,7 @@ pub fn step_on(p: Parts, items: &mut [u8; 8192], rec: &[u8]) -> Turned
 // From any tables: "Tables are refused with 32 exactly if they break a rule".
 pub fn step(t: Tables, rec: &[u8]) -> Stepped
     ensures exact { λ r. ⌜ r ≡ whole (stepIn t (now (rec .entry))) ⌝ }
+    ensures monitor { λ r. ⌜ Replies t (now (rec .entry)) r ⌝ }
 {
     let p = t.parts;
     if !sound(p) {

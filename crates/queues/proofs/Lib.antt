@@ -5,3 +5,4 @@ pub mod ShutLaws
 pub mod DeleteExact
 pub mod SoundLaws
 pub mod Small
+pub mod Told

@@ -5,9 +5,11 @@ use mathlib.Core.Path.{_≡_, refl, sym, ap, _∙_}
 use mathlib.Core.Bool.{Bool, true, false, not, _&&_, _||_}
 use mathlib.Core.List.{List, [], _∷_, _++_, append-nil}
 use native.Mathlib.Omega.{arith}
+use lib.Dec.{ltb}
 use lib.ListN.{length, getD, set, take, drop, replicate}
+use borrow.Author.Tests.{lt-ltb, le-ltb}
 use Rattle.base.specs.Lists.{keep, any, all, first, firstAt}
-use Rattle.base.specs.Laws.Tests.{byTest, no, and-l, and-r, or-l, is-false}
+use Rattle.base.specs.Laws.Tests.{byTest, no, and-l, and-r, and-i, or-l, is-false}
 
 module _ {A : Type 0} (p : A → Bool) where
   -- ---- one test
@@ -205,6 +207,29 @@ module _ {A : Type 0} (p q : A → Bool) where
     pub firstAt-same : (l : List A) → firstAt p l ≡ firstAt q l
     firstAt-same [] = refl
     firstAt-same (x ∷ l) = cc (e x, firstAt-same l)
+
+-- ---- where the first stands
+module _ {A : Type 0} (p : A → Bool) where
+  pub firstAt-any : (l : List A) → any p l ≡ ltb (firstAt p l) (length l)
+  firstAt-any l =
+      byTest (any p l) (λ e. e ∙ sym (lt-ltb (firstAt p l) (length l) (firstAt-lt p l e)))
+      (λ e. e ∙ sym (le-ltb (firstAt p l) (length l) (let z = firstAt-none p l e in omega arith)))
+
+  -- where one passes, the default does not matter
+  pub first-default : (d e : A) (l : List A) → any p l ≡ true → first p d l ≡ first p e l
+  first-default d e [] h = no h
+  first-default d e (x ∷ l) h = byTest (p x) (λ t. rw t) (λ t. rw t (first-default d e l (rw t at h)))
+
+  pub all-by-getD : (d : A) (l : List A) → ((i : ℕ) → p (getD l i d) ≡ true) → all p l ≡ true
+  all-by-getD d [] h = refl
+  all-by-getD d (x ∷ l) h = and-i (h 0) (all-by-getD d l (λ i. h (suc i)))
+
+-- in what passes q, the first that passes p stands behind those before it that pass q
+pub firstAt-in : {A : Type 0} (p q : A → Bool) (l : List A)
+    → firstAt p (keep q l) ≡ length (keep q (take (firstAt (λ x. q x && p x) l) l))
+firstAt-in p q [] = refl
+firstAt-in p q (x ∷ l) =
+    byTest (q x) (λ e. byTest (p x) (λ f. rw (e, f)) (λ f. rw (e, f, e) (ap suc (firstAt-in p q l)))) (λ e. rw (e, e) (firstAt-in p q l))
 
 -- ---- three tests
 pub all-keep-imp : {A : Type 0} (p q r : A → Bool) → ((x : A) → p x ≡ true → q x ≡ true → r x ≡ true) → (l : List A)

@@ -1,8 +1,10 @@
 -- Laws of lists under a map that the tests do not see, or that brings one test to another, and of maps over one list.
 -- Assumes nothing.
-use mathlib.Core.Path.{_≡_, refl, sym}
+use Prim.Native.Nat.{ℕ, zero, suc}
+use mathlib.Core.Path.{_≡_, refl, sym, ap}
 use mathlib.Core.Bool.{Bool, true, false}
 use mathlib.Core.List.{List, [], _∷_, map}
+use lib.ListN.{take, set}
 use Rattle.base.specs.Choice.{pick}
 use Rattle.base.specs.Lists.{keep, any, all, first, firstAt}
 use Rattle.base.specs.Sort.{place, sort}
@@ -67,6 +69,17 @@ module _ {A B : Type 0} (f : A → B) where
   pub map-same : (g : A → B) → ((x : A) → f x ≡ g x) → (l : List A) → map f l ≡ map g l
   map-same g h [] = refl
   map-same g h (x ∷ l) = cc (h x, map-same g h l)
+
+  -- ---- at an index
+  pub map-take : (i : ℕ) (l : List A) → map f (take i l) ≡ take i (map f l)
+  map-take zero l = refl
+  map-take (suc i) [] = refl
+  map-take (suc i) (x ∷ l) = ap (λ (r : List B). f x ∷ r) (map-take i l)
+
+  pub map-set : (l : List A) (i : ℕ) (x : A) → map f (set l i x) ≡ set (map f l) i (f x)
+  map-set [] i x = refl
+  map-set (y ∷ l) zero x = refl
+  map-set (y ∷ l) (suc i) x = ap (λ (r : List B). f y ∷ r) (map-set l i x)
 
 pub map-id : {A : Type 0} (f : A → A) → ((x : A) → f x ≡ x) → (l : List A) → map f l ≡ l
 map-id f h [] = refl

@@ -1,12 +1,15 @@
 -- What is written over the front of a list: its length, what is read in it, and one more. Assumes nothing.
 use mathlib.Core.Path.{_≡_, refl, sym, ap, _∙_}
+use mathlib.Core.Bool.{Bool, true}
 use mathlib.Core.List.{List, [], _∷_, _++_}
 use Prim.Native.Nat.{ℕ, zero, suc, _+_, _-_, _<_, _≤_}
 use native.Mathlib.Numerals.{add-one}
 use native.Mathlib.Omega.{arith}
 use lib.ListN.{length, take, drop, getD, set, length-append, length-drop, List·getD-append}
-use lib.Seq.{length-take-le, take-suc, drop-cons, set-append-seam, getD-append-add, getD-drop, take-append-seam, drop-append-seam, drop-append-add, drop-drop, append-snoc}
-use Rattle.base.specs.Lists.{over}
+use lib.Seq.{drop-cons, set-append-seam, getD-append-add, getD-drop, take-append-seam, drop-append-seam, drop-append-add, drop-drop, append-snoc, take-suc, length-take-le}
+use Rattle.base.specs.Lists.{all, over}
+use Rattle.base.specs.Laws.Tests.{and-i}
+use Rattle.base.specs.Laws.Keep.{all-append, all-drop}
 
 module _ {A : Type 0} where
   pub over-nil : (l : List A) → over [] l ≡ l
@@ -61,10 +64,20 @@ module _ {A : Type 0} where
   over-self (suc n) [] = refl
   over-self (suc n) (x ∷ l) = ap (λ (r : List A). x ∷ r) (over-self n l)
 
-  -- one more of a list is written
-  pub over-take : (s l : List A) (i : ℕ) (d : A) → i < length s → i < length l → set (over (take i s) l) i (getD s i d) ≡ over (take (i + 1) s) l
-  over-take s l i d hs hl =
-      let n : length (take i s) ≡ i = length-take-le i s (omega arith) in
-      ap (λ (m : ℕ). set (over (take i s) l) m (getD s i d)) (sym n)
-      ∙ over-set (take i s) l (getD s i d) (omega arith)
-      ∙ ap (λ r. over r l) (sym (ap (λ (m : ℕ). take m s) (add-one i) ∙ take-suc s i d hs))
+-- a copy to the front, one element a turn
+pub over-take : {A : Type 0} (s l : List A) (i : ℕ) (d : A) → i < length s → i < length l
+    → set (over (take i s) l) i (getD s i d) ≡ over (take (i + 1) s) l
+over-take s l i d hs hl =
+    let n : length (take i s) ≡ i = length-take-le i s (omega arith) in
+    ap (λ (m : ℕ). set (over (take i s) l) m (getD s i d)) (sym n)
+    ∙ over-set (take i s) l (getD s i d) (omega arith)
+    ∙ ap (λ r. over r l) (sym (ap (λ (m : ℕ). take m s) (add-one i) ∙ take-suc s i d hs))
+
+-- what is put behind the first k
+pub over-put : {A : Type 0} (k : ℕ) (l : List A) (x : A) → k < length l → set l k x ≡ over (take k l ++ (x ∷ [])) l
+over-put k l x h =
+    let n : length (take k l) ≡ k = length-take-le k l (omega arith) in
+    ap (λ r. set r k x) (sym (over-self k l)) ∙ ap (λ (m : ℕ). set (over (take k l) l) m x) (sym n) ∙ over-set (take k l) l x (omega arith)
+
+pub all-over : {A : Type 0} (p : A → Bool) (ks l : List A) → all p ks ≡ true → all p l ≡ true → all p (over ks l) ≡ true
+all-over p ks l h e = all-append p ks (drop (length ks) l) ∙ and-i h (all-drop p (length ks) l e)

@@ -1,5 +1,5 @@
--- What a loop that goes through the first n of a list has left, from place i on: one element less a turn, and nothing at the end.
--- Assumes nothing.
+-- What a loop that goes through the first n of a list has left, from place i on: one element less a turn, and nothing at the end;
+-- and what it has read. Assumes nothing.
 use Prim.Native.Nat.{ℕ, suc, _+_, _<_, _≤_, min}
 use mathlib.Core.Path.{_≡_, sym, ap, ap₂, _∙_}
 use mathlib.Core.Bool.{Bool, true, false}
@@ -10,7 +10,7 @@ use lib.Dec.{leb}
 use lib.ListN.{length, take, drop, getD, length-take, drop-of-length-le}
 use lib.Seq.{take-suc, drop-cons, getD-take, take-take, take-all, take-length, split-at}
 use borrow.Author.Tests.{eq-eqb, ne-eqb, leb-true, leb-false}
-use Rattle.base.specs.Lists.{any, all, firstAt, has, copies, once}
+use Rattle.base.specs.Lists.{any, all, first, firstAt, has, copies, once}
 use Rattle.base.specs.Laws.Tests.{byTest, eqb-same}
 use Rattle.base.specs.Laws.Counting.{has-some, copies-append, once-copies, once-snoc}
 
@@ -32,6 +32,14 @@ module _ {A : Type 0} (l : List A) (n i : ℕ) where
   pub left-end : min n (length l) ≤ i → drop i (take n l) ≡ []
   left-end h = drop-of-length-le (take n l) {i = i} (rw length-take h)
 
+  pub read-cons : (d : A) → i < n → i < length l → take (i + 1) (take n l) ≡ take i (take n l) ++ (getD l i d ∷ [])
+  read-cons d h b =
+      ap (λ (k : ℕ). take k (take n l)) (add-one i) ∙ take-suc (take n l) i d (rw length-take (omega arith))
+      ∙ ap (λ (x : A). take i (take n l) ++ (x ∷ [])) (getD-take n l i d h)
+
+  pub read-end : min n (length l) ≤ i → take i (take n l) ≡ take n l
+  read-end h = take-all i (take n l) (rw length-take h)
+
   -- ---- by a test
 
   module _ (p : A → Bool) where
@@ -43,6 +51,9 @@ module _ {A : Type 0} (l : List A) (n i : ℕ) where
 
     pub firstAt-end : min n (length l) ≤ i → firstAt p (drop i (take n l)) ≡ 0
     firstAt-end h = rw (left-end h)
+
+    pub first-end : (e : A) → min n (length l) ≤ i → first p e (drop i (take n l)) ≡ e
+    first-end e h = rw (left-end h)
 
     module _ (d : A) (h : i < n) (b : i < length l) where
       pub all-hit : p (getD l i d) ≡ true → all p (drop (i + 1) (take n l)) ≡ all p (drop i (take n l))
@@ -63,6 +74,12 @@ module _ {A : Type 0} (l : List A) (n i : ℕ) where
       pub firstAt-miss : p (getD l i d) ≡ false → suc (firstAt p (drop (i + 1) (take n l))) ≡ firstAt p (drop i (take n l))
       firstAt-miss t = rw (left-cons d h b, t)
 
+      pub first-hit : (e : A) → p (getD l i d) ≡ true → first p e (drop i (take n l)) ≡ getD l i d
+      first-hit e t = rw (left-cons d h b, t)
+
+      pub first-miss : (e : A) → p (getD l i d) ≡ false → first p e (drop (i + 1) (take n l)) ≡ first p e (drop i (take n l))
+      first-miss e t = rw (left-cons d h b, t)
+
 -- ---- of numbers
 
 module _ (l : List ℕ) (n i x : ℕ) where
@@ -75,6 +92,18 @@ module _ (l : List ℕ) (n i x : ℕ) where
 
     pub copies-miss : (getD l i 0 ≡ x → ⊥) → copies x (drop (i + 1) (take n l)) ≡ copies x (drop i (take n l))
     copies-miss e = rw (left-cons l n i 0 h b, ne-eqb (getD l i 0) x e) (omega arith)
+
+-- none twice: each is looked for among those behind it
+module _ (l : List ℕ) (n i : ℕ) where
+  pub once-left-end : min n (length l) ≤ i → once (drop i (take n l)) ≡ true
+  once-left-end h = rw (left-end l n i h)
+
+  module _ (h : i < n) (b : i < length l) where
+    pub once-left : has (getD l i 0) (drop (i + 1) (take n l)) ≡ false → once (drop (i + 1) (take n l)) ≡ once (drop i (take n l))
+    once-left e = rw (left-cons l n i 0 h b, e)
+
+    pub twice-left : has (getD l i 0) (drop (i + 1) (take n l)) ≡ true → once (drop i (take n l)) ≡ false
+    twice-left e = rw (left-cons l n i 0 h b, e)
 
 -- none twice: each is looked for among those before it
 module _ (l : List ℕ) (n i : ℕ) (h : i < n) (b : i < length l) where

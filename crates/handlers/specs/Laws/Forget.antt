@@ -7,19 +7,20 @@ use native.Mathlib.Omega.{arith}
 use lib.Dec.{eqb}
 use lib.ListN.{getD, length-take}
 use borrow.Author.Tests.{eqb-true}
-use Rattle.base.specs.Lists.{keep, any, first}
+use Rattle.base.specs.Lists.{keep, any, first, cutAt}
 use Rattle.base.specs.Laws.Tests.{byTest}
 use Rattle.base.specs.Laws.Keep.{all-none, keep-all, firstAt-lt, first-passes, getD-firstAt}
 use Rattle.base.specs.Laws.Maps.{keep-map}
+use Rattle.base.specs.Laws.Index.{cut-by-name}
+use Rattle.base.specs.Laws.Cut.{length-cut}
 use Rattle.model.specs.Handlers as model
 use Rattle.model.specs.Laws.SoundTasks.{forget-sound}
 use Rattle.handlers.specs.declared.Task.{Task}
 use Rattle.handlers.specs.declared.Tasks.{Tasks}
 use Rattle.handlers.specs.Table.{taskOf, live, tasksOf, soundH}
-use Rattle.handlers.specs.Rows.{named, outRow, placeIn, cutAt}
+use Rattle.handlers.specs.Rows.{named, outRow, placeIn}
 use Rattle.handlers.specs.Names.{nameOf}
 use Rattle.handlers.specs.Forget.{forgetIn, Forgotten}
-use Rattle.handlers.specs.Laws.Lists.{cut-by-name, length-cut}
 use Rattle.handlers.specs.Laws.Standing.{count-fits, model-sound, sound-of, names-once, live-stands}
 
 module _ (t : Tasks) (n : ℕ) (s : soundH t ≡ true) where

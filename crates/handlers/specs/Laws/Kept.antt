@@ -7,7 +7,7 @@ use native.Mathlib.Omega.{arith}
 use lib.Dec.{eqb, ltb}
 use lib.ListN.{length, take, drop, set, length-append, length-take, length-drop, length-set}
 use borrow.Author.Tests.{lt-ltb, ltb-true, ltb-false}
-use Rattle.base.specs.Lists.{all, any, over}
+use Rattle.base.specs.Lists.{all, any, over, cutAt}
 use Rattle.base.specs.Laws.Tests.{and-l, and-r, and-i, pick-elim}
 use Rattle.base.specs.Laws.Keep.{all-append, all-drop, all-take, all-set, first-or}
 use Rattle.base.specs.Laws.Over.{length-over}
@@ -19,7 +19,7 @@ use Rattle.handlers.specs.declared.Task.{Task}
 use Rattle.handlers.specs.declared.Tasks.{Tasks}
 use Rattle.handlers.specs.declared.answers.Handled.{Handled}
 use Rattle.handlers.specs.Table.{live, withLive, tasksOf, soundH}
-use Rattle.handlers.specs.Rows.{named, unsetRow, withSetting, placeIn, taskIn, withRow, cutAt}
+use Rattle.handlers.specs.Rows.{named, unsetRow, withSetting, placeIn, taskIn, withRow}
 use Rattle.handlers.specs.Fresh.{noTasks, Fresh}
 use Rattle.handlers.specs.Set.{putIn, setIn, setTo, handleIn, ignoreIn, resetIn}
 use Rattle.handlers.specs.Forget.{forgetIn}

@@ -13,7 +13,8 @@ use Rattle.base.specs.Choice.{pick}
 use Rattle.base.specs.Lists.{any}
 use Rattle.base.specs.Laws.Tests.{byTest, and-i, or-false-r, eqb-same}
 use Rattle.base.specs.Laws.Keep.{firstAt-le, firstAt-lt, firstAt-none, first-passes, first-none, getD-firstAt}
-use Rattle.base.specs.Laws.Maps.{map-swap, map-none}
+use Rattle.base.specs.Laws.Maps.{map-swap, map-none, map-set}
+use Rattle.base.specs.Laws.Index.{set-by-name}
 use Rattle.model.specs.Plans.{invalidRequest, check, plan, done}
 use Rattle.model.specs.Handlers as model
 use Rattle.model.specs.Laws.SoundTasks.{set-sound}
@@ -26,7 +27,6 @@ use Rattle.handlers.specs.Table.{settingOf, taskOf, live, tasksOf, sound
 use Rattle.handlers.specs.Rows.{named, unsetRow, withSetting, placeIn, taskIn}
 use Rattle.handlers.specs.Names.{nameOf}
 use Rattle.handlers.specs.Set.{room, putIn, setIn, setTo, handleIn, ignoreIn, resetIn, Done}
-use Rattle.handlers.specs.Laws.Lists.{set-by-name, map-set}
 use Rattle.handlers.specs.Laws.Standing.{count-fits, model-sound, sound-of, known-stands, names-once, live-stands}
 
 -- ---- a row, and a list of rows, with a setting made

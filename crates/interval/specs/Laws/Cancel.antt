@@ -8,7 +8,7 @@ use lib.Dec.{eqb}
 use lib.ListN.{getD, length-take}
 use lib.Seq.{getD-take}
 use borrow.Author.Tests.{eq-eqb, ne-eqb}
-use Rattle.base.specs.Lists.{any, first, firstAt}
+use Rattle.base.specs.Lists.{any, first, firstAt, cutAt}
 use Rattle.base.specs.Bytes.{blank}
 use Rattle.base.specs.Laws.Tests.{byTest, no}
 use Rattle.base.specs.Laws.Keep.{firstAt-lt, getD-firstAt}
@@ -21,7 +21,7 @@ use Rattle.interval.specs.declared.Requests.{Requests}
 use Rattle.interval.specs.declared.answers.Cancelled.{Cancelled}
 use Rattle.interval.specs.Table.{live, withLive}
 use Rattle.interval.specs.Stands.{intervalAt, Means, soundR, Done}
-use Rattle.interval.specs.Rows.{active, named, outRow, cutAt}
+use Rattle.interval.specs.Rows.{active, named, outRow}
 use Rattle.interval.specs.Cancel.{cancelIn, cancelGives, cancelled}
 use Rattle.interval.specs.declared.answers.Cancel.the-variants as answers
 use Rattle.interval.specs.Laws.Ties.{Small, small, finish}

@@ -11,7 +11,7 @@ use Rattle.base.specs.Choice.{pick}
 use Rattle.base.specs.Lists.{has}
 use Rattle.base.specs.Bytes.{blank}
 use Rattle.base.specs.Laws.Tests.{byTest}
-use Rattle.base.specs.Laws.Over.{take-over}
+use Rattle.base.specs.Laws.Over.{take-over, over-put}
 use Rattle.model.specs.Limits.{cabinet}
 use Rattle.model.specs.Plans.{Outcome, Plan, firstOf, obey}
 use Rattle.model.specs.Interval as model
@@ -23,7 +23,6 @@ use Rattle.interval.specs.declared.answers.Defined.{Defined}
 use Rattle.interval.specs.Table.{programsOf, terminalsOf}
 use Rattle.interval.specs.Stands.{intervalAt, Means, soundR, Done}
 use Rattle.interval.specs.Define.{defineGives, ruling, ifDone, withPrograms, withTerminals, defined, defineProgram, defineTerminal}
-use Rattle.interval.specs.ListLaws.{over-put}
 use Rattle.interval.specs.Laws.Ties.{Small, small, finish}
 
 -- ---- what a ruling comes to

@@ -9,8 +9,8 @@ use lib.ListN.{length, take, getD, length-map}
 use Rattle.base.specs.Lists.{keep, any, first, firstAt, has}
 use Rattle.base.specs.Bytes.{bytesOf}
 use Rattle.base.specs.Laws.Tests.{byTest}
-use Rattle.base.specs.Laws.Keep.{any-keep, first-in, firstAt-lt, getD-firstAt}
-use Rattle.base.specs.Laws.Maps.{any-map, keep-map, first-map, firstAt-map}
+use Rattle.base.specs.Laws.Keep.{any-keep, first-in, firstAt-lt, getD-firstAt, firstAt-in, first-default}
+use Rattle.base.specs.Laws.Maps.{any-map, keep-map, first-map, firstAt-map, map-take}
 use Rattle.base.specs.Laws.Counting.{has-map}
 use Rattle.model.specs.Limits.{cabinet}
 use Rattle.model.specs.Plans.{Outcome, firstOf, obey}
@@ -26,7 +26,6 @@ use Rattle.interval.specs.Table.{live, inPhase}
 use Rattle.interval.specs.Stands.{requestAt, intervalAt, Means, soundR, Done}
 use Rattle.interval.specs.Rows.{expired, active, outRow, noRow, withRow}
 use Rattle.interval.specs.Dispatch.{dispatchGives, dispatchNumber, dispatchBytes, programOf, terminalOf, ready, passedBy, pickIn, dispatched, dispatchedRow, dispatchIn}
-use Rattle.interval.specs.ListLaws.{firstAt-in, first-default, map-take}
 use Rattle.interval.specs.Laws.Ties.{Small, small, finish}
 use Rattle.interval.specs.Laws.Standing.{active-at, expired-at, turned, turned-small, read-row}
 

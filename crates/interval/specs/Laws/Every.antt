@@ -13,7 +13,7 @@ use Rattle.base.specs.Bytes.{blank, isByte, isBytes, isName}
 use Rattle.base.specs.Laws.Tests.{byTest, no, both, and-l, and-r, and-i, or-elim}
 use Rattle.base.specs.Laws.Keep.{all-imp, all-replicate}
 use Rattle.base.specs.Laws.Maps.{map-map, map-id, map-all-same, all-map-imp}
-use Rattle.base.specs.Laws.Over.{take-over, length-over}
+use Rattle.base.specs.Laws.Over.{take-over, length-over, all-over}
 use Rattle.model.specs.Limits.{cabinet}
 use Rattle.model.specs.Interval as model
 use Rattle.model.specs.Laws.SoundInterval.{IntervalSound, view, view-request}
@@ -26,7 +26,6 @@ use Rattle.interval.specs.Table.{live}
 use Rattle.interval.specs.Rows.{noRow}
 use Rattle.interval.specs.Stands.{phaseAt, requestAt, intervalAt, Means, soundR}
 use Rattle.interval.specs.Typed.{word, typedPhase, typedRow, Typed}
-use Rattle.interval.specs.ListLaws.{all-over}
 use Rattle.interval.specs.Laws.Clock.{sound-unview}
 
 -- ---- the struct of a state

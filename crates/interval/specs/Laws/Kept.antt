@@ -8,13 +8,13 @@ use native.Mathlib.Omega.{arith}
 use lib.Dec.{eqb, ltb}
 use lib.ListN.{length, take, drop, getD, replicate, length-append, length-take, length-drop, length-set}
 use borrow.Author.Tests.{lt-ltb, eq-eqb}
-use Rattle.base.specs.Lists.{all, any, firstAt, keep, over}
+use Rattle.base.specs.Lists.{all, any, firstAt, keep, over, cutAt}
 use Rattle.base.specs.Sort.{sort}
 use Rattle.base.specs.Bytes.{blank, isByte, isBytes}
 use Rattle.base.specs.Laws.Tests.{and-l, and-r, and-i, both, pick-elim}
 use Rattle.base.specs.Laws.Keep.{all-append, all-drop, all-take, all-set, all-keep, all-getD, first-or, all-replicate}
 use Rattle.base.specs.Laws.Maps.{all-map-imp}
-use Rattle.base.specs.Laws.Over.{length-over}
+use Rattle.base.specs.Laws.Over.{length-over, all-over}
 use Rattle.base.specs.Laws.Sorting.{all-sort}
 use Rattle.model.specs.Limits.{cabinet}
 use Rattle.model.specs.Interval as model
@@ -29,9 +29,8 @@ use Rattle.interval.specs.declared.dispatch.Picked.{Picked}
 use Rattle.interval.specs.declared.dispatch.Picked.the-variants as picked
 use Rattle.interval.specs.Circle.{after}
 use Rattle.interval.specs.Laws.Circle.{after-lt}
-use Rattle.interval.specs.ListLaws.{all-over}
 use Rattle.interval.specs.Table.{programsOf, terminalsOf, live, withLive, inPhase}
-use Rattle.interval.specs.Rows.{active, named, noRow, outRow, cutAt, withRow}
+use Rattle.interval.specs.Rows.{active, named, noRow, outRow, withRow}
 use Rattle.interval.specs.Typed.{word, typedPhase, typedRest, typedRow, Typed}
 use Rattle.interval.specs.Advance.{dueIn, noLater, newly, lapse, moved, advanceOf}
 use Rattle.interval.specs.Cancel.{cancelIn}

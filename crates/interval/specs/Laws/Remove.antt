@@ -6,10 +6,11 @@ use mathlib.Core.List.{List, map}
 use lib.Dec.{eqb}
 use lib.ListN.{length, getD}
 use borrow.Author.Tests.{eqb-true}
-use Rattle.base.specs.Lists.{keep, any, first, firstAt, once}
+use Rattle.base.specs.Lists.{keep, any, first, firstAt, once, cutAt}
 use Rattle.base.specs.Laws.Tests.{byTest}
 use Rattle.base.specs.Laws.Keep.{all-none, keep-all, firstAt-lt, first-passes, getD-firstAt}
 use Rattle.base.specs.Laws.Maps.{keep-map}
+use Rattle.base.specs.Laws.Index.{cut-by-name}
 use Rattle.model.specs.Limits.{cabinet}
 use Rattle.model.specs.Interval as model
 use Rattle.model.specs.Laws.SoundInterval.{remove-sound}
@@ -17,9 +18,8 @@ use Rattle.interval.specs.declared.Request.{Request}
 use Rattle.interval.specs.declared.Requests.{Requests}
 use Rattle.interval.specs.Table.{live, withLive}
 use Rattle.interval.specs.Stands.{requestAt, intervalAt, Means, soundR}
-use Rattle.interval.specs.Rows.{named, cutAt, outRow}
+use Rattle.interval.specs.Rows.{named, outRow}
 use Rattle.interval.specs.Remove.{removeIn, Removed}
-use Rattle.interval.specs.ListLaws.{cut-by-name}
 use Rattle.interval.specs.Laws.Ties.{Small, small, sound-here, sound-back}
 use Rattle.interval.specs.Laws.Standing.{nameOf, names-once, live-at, cut-small}
 

@@ -8,10 +8,11 @@ use lib.Dec.{eqb, ltb}
 use lib.ListN.{length, take, getD, length-take}
 use lib.Seq.{take-take}
 use borrow.Author.Tests.{eqb-true}
-use Rattle.base.specs.Lists.{any, first, firstAt}
+use Rattle.base.specs.Lists.{any, first, firstAt, cutAt}
 use Rattle.base.specs.Laws.Tests.{byTest, no, pick-map}
-use Rattle.base.specs.Laws.Keep.{firstAt-lt, first-passes, first-none, getD-firstAt}
+use Rattle.base.specs.Laws.Keep.{firstAt-lt, first-passes, first-none, getD-firstAt, first-default}
 use Rattle.base.specs.Laws.Maps.{any-map, first-map}
+use Rattle.base.specs.Laws.Scans.{take-least}
 use Rattle.model.specs.Limits.{cabinet}
 use Rattle.model.specs.Plans.{Outcome, firstOf, obey, cut}
 use Rattle.model.specs.Interval as model
@@ -24,9 +25,8 @@ use Rattle.interval.specs.declared.answers.Retrieve.the-variants.{Given,
 use Rattle.interval.specs.declared.answers.Retrieved.{Retrieved}
 use Rattle.interval.specs.Table.{live, withLive, inPhase}
 use Rattle.interval.specs.Stands.{requestAt, intervalAt, Means, soundR, Done}
-use Rattle.interval.specs.Rows.{named, dataOf, outRow, noRow, cutAt, withRow}
+use Rattle.interval.specs.Rows.{named, dataOf, outRow, noRow, withRow}
 use Rattle.interval.specs.Retrieve.{retrieveGives, hasOwn, serves, cutOf, handed, nothing, taskOf, retrieveIn}
-use Rattle.interval.specs.ListLaws.{first-default, take-least}
 use Rattle.interval.specs.Laws.Ties.{Small, small, finish}
 use Rattle.interval.specs.Laws.Standing.{nameOf, expired-at, taken-at, turned, turned-small, read-row, cut-small}
 use Rattle.interval.specs.Laws.Remove.{cut-stands-at}

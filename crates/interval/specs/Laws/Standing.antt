@@ -9,11 +9,13 @@ use lib.ListN.{length, take, drop, getD, set, length-take}
 use lib.Seq.{take-set-lt, getD-take}
 use borrow.Author.Tests.{lt-ltb, le-ltb}
 use Rattle.base.specs.Choice.{pick}
-use Rattle.base.specs.Lists.{any, all, firstAt, once}
+use Rattle.base.specs.Lists.{any, all, firstAt, once, cutAt}
 use Rattle.base.specs.Laws.Tests.{and-i, pick-map}
-use Rattle.base.specs.Laws.Keep.{all-append, all-take, all-drop, all-set, all-getD}
+use Rattle.base.specs.Laws.Keep.{all-append, all-take, all-drop, all-set, all-getD, firstAt-any}
 use Rattle.base.specs.Laws.Maps.{any-map, map-swap}
 use Rattle.base.specs.Laws.Over.{take-over}
+use Rattle.base.specs.Laws.Cut.{length-cut}
+use Rattle.base.specs.Laws.Index.{set-by-name}
 use Rattle.model.specs.Limits.{cabinet}
 use Rattle.model.specs.Interval as model
 use Rattle.model.specs.Laws.SoundInterval.{view}
@@ -23,8 +25,7 @@ use Rattle.interval.specs.declared.Request.{Request}
 use Rattle.interval.specs.declared.Requests.{Requests}
 use Rattle.interval.specs.Table.{live, withLive, inPhase}
 use Rattle.interval.specs.Stands.{phaseAt, requestAt, intervalAt, Means, soundR}
-use Rattle.interval.specs.Rows.{isExpired, isActive, notTaken, active, named, cutAt, outRow, withRow}
-use Rattle.interval.specs.ListLaws.{length-cut, firstAt-any, set-by-name}
+use Rattle.interval.specs.Rows.{isExpired, isActive, notTaken, active, named, outRow, withRow}
 use Rattle.interval.specs.Laws.Ties.{short, Small, sound-here}
 
 -- ---- phases

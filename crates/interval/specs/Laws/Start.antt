@@ -11,8 +11,8 @@ use Rattle.base.specs.Choice.{pick}
 use Rattle.base.specs.Lists.{any, firstAt, has, over}
 use Rattle.base.specs.Bytes.{blank, isBytes}
 use Rattle.base.specs.Laws.Tests.{and-i}
-use Rattle.base.specs.Laws.Keep.{all-append}
-use Rattle.base.specs.Laws.Over.{take-over}
+use Rattle.base.specs.Laws.Keep.{all-append, firstAt-any}
+use Rattle.base.specs.Laws.Over.{take-over, over-put}
 use Rattle.model.specs.Limits.{cabinet}
 use Rattle.model.specs.Plans.{Outcome, firstOf, obey, check, done, invalidRequest, wrongLength, unknownProgram, unknownTerminal, notUnique, noSpace}
 use Rattle.model.specs.Interval as model
@@ -29,7 +29,6 @@ use Rattle.interval.specs.Table.{programsOf, terminalsOf, live, withLive
 use Rattle.interval.specs.Stands.{phaseAt, requestAt, intervalAt, Means, soundR, Done}
 use Rattle.interval.specs.Rows.{named}
 use Rattle.interval.specs.Start.{startGives, ruling, ruled, begunAt, newRow, ifDone, started, startIn}
-use Rattle.interval.specs.ListLaws.{over-put, firstAt-any}
 use Rattle.interval.specs.Laws.Typed.{withRows, counted}
 use Rattle.interval.specs.Laws.Ties.{short, Small, small, finish}
 use Rattle.interval.specs.Laws.Standing.{known-at, live-at, live-small}

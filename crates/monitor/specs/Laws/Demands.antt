@@ -24,18 +24,15 @@ use Rattle.model.specs.Laws.Written.{step-proper, proper-plain}
 use Rattle.interval.specs.Fresh.{freshAt}
 use Rattle.interval.specs.Stands.{intervalAt}
 use Rattle.monitor.specs.declared.Tables.{Tables}
-use Rattle.monitor.specs.Table.{freshTables, freshParts, stateAt, soundP}
-use Rattle.monitor.specs.Step.{allowedIn, stepOn, stepIn}
-use Rattle.monitor.specs.Monitor.{Held, StandsFor, stays, goesBy, stepHeld, cabinetMonitor}
-use Rattle.monitor.specs.Laws.Fine.{Active, fresh-fine, fresh-stands, sound-fine, sound-active, fine-sound}
+use Rattle.monitor.specs.declared.step.Stepped as declared
+use Rattle.monitor.specs.Table.{freshParts, noItems, stateAt, soundP}
+use Rattle.monitor.specs.Step.{allowedIn, stepOn, stepIn, whole}
+use Rattle.monitor.specs.Monitor.{Held, StandsFor, stays, goesBy, stepHeld, bare, Replies, cabinetMonitor}
+use Rattle.monitor.specs.Laws.Fine.{fresh-sound, fresh-stands, sound-fine, sound-active}
 use Rattle.monitor.specs.Laws.Step.{goes-at, step-keeps, state-sound, allowed-stands}
 use Rattle.monitor.specs.Laws.Every.{tablesFor, every-typed, every-means, every-stands, every-sound}
 
 -- ---- its step is the exact definition
-
--- without that the tables are what the type says
-abbrev pub bare : Stepped Held → Stepped Tables
-bare x = record { answer = x .answer; tables = x .tables .tables }
 
 module _ (h : Held) (r : List ℕ) where
   abbrev p : Bool
@@ -53,6 +50,10 @@ module _ (h : Held) (r : List ℕ) where
   pub step-is : isBytes r ≡ true → bare (stepHeld h r) ≡ stepIn (h .tables) r
   unfolding stepHeld
   step-is y = by-is (isBytes r) refl p refl (formed r) (allowedIn (h .tables .parts) r) y refl refl
+
+  -- so the code's reply is the monitor's
+  pub replies : (x : declared.Stepped) → isBytes r ≡ true → x ≡ whole (stepIn (h .tables) r) → (x ≡ whole (stepIn (h .tables) r)) × Replies (h .tables) r x
+  replies x y e = (e, record { typed = h .typed; reply = e ∙ ap whole (sym (step-is y)) })
 
   -- where 32, 33 and 34 arise it is the tables themselves that come back
   by-unsound : (bytes : Bool) (b : isBytes r ≡ bytes) (soundly : Bool) (s : p ≡ soundly) (form may : Bool) → bytes ≡ true → soundly ≡ false
@@ -122,14 +123,11 @@ stood-sound h s k d =
     subst (λ (x : State). sound cabinet x ≡ true) (d .state)
     (state-sound c (h .tables) (d .means) (sound-fine c (h .tables) (h .typed) k) (sound-active c (h .tables) k))
 
-fresh-sound : (v : ℕ) → v < 2 ^ 32 → soundP (freshTables v .parts) ≡ true
-fresh-sound v h = fine-sound 0 (freshTables v) (fresh-fine v h) (subst Active (sym (fresh-stands v 0)) refl)
-
 pub demand2 : Demand2 cabinet cabinetMonitor
 unfolding freshParts freshAt
 demand2 = record {
   begins = λ v h. fresh-sound (v % 2 ^ 32) (omega arith);
-  empty = λ v c h e. record { means = mod-eq-of-lt h ∙ sym e; state = fresh-stands (v % 2 ^ 32) c };
+  empty = λ v c h e. record { means = mod-eq-of-lt h ∙ sym e; state = fresh-stands (v % 2 ^ 32) noItems c };
   some = λ t k. (stateAt (t .tables .parts .requests .register) (t .tables), own-stands t);
   one = λ t s s′ k d d′ e. sym (d .state) ∙ ap (λ (c : ℕ). stateAt c (t .tables)) e ∙ d′ .state;
   only = λ t s k d. stood-sound t s k d;

@@ -1,6 +1,6 @@
 -- What the types say of the tables, and the rules of the parts; that fresh tables and tables without a task have both. Assumes nothing.
 use Prim.Native.Nat.{ℕ, _^_, _<_}
-use mathlib.Core.Path.{_≡_, refl, sym, ap, _∙_}
+use mathlib.Core.Path.{_≡_, refl, sym, subst, _∙_}
 use mathlib.Core.Bool.{true, _&&_}
 use mathlib.Core.List.{List}
 use lib.ListN.{length, length-replicate}
@@ -29,7 +29,7 @@ use Rattle.handlers.specs.Laws.Every as settings
 use Rattle.handlers.specs.Laws.Kept as settings-kept
 use Rattle.monitor.specs.declared.Parts.{Parts}
 use Rattle.monitor.specs.declared.Tables.{Tables}
-use Rattle.monitor.specs.Table.{freshTables, freshParts, noItems, stateAt, settled, soundP}
+use Rattle.monitor.specs.Table.{tables, freshTables, freshParts, noItems, stateAt, settled, soundP, Fresh}
 
 -- the lengths of the arrays, and the widths of the numbers
 pub record Typed (t : Tables) : Type 0 where
@@ -67,11 +67,12 @@ fresh-fine v h = record {
   tasks = settings-kept.none-fresh .soundly;
 }
 
-pub fresh-stands : (v c : ℕ) → stateAt c (freshTables v) ≡ model.emptyAt c
+-- whatever bytes lie beside them
+pub fresh-stands : (v : ℕ) (b : List ℕ) (c : ℕ) → stateAt c (tables (freshParts v) b) ≡ model.emptyAt c
 unfolding freshParts freshAt
-fresh-stands v c =
+fresh-stands v b c =
     let i = requests-fresh.fresh-both v noRow refl .1 .idle c in
-    let q = queues-fresh.fresh-empty .nothing noItems in
+    let q = queues-fresh.fresh-empty .nothing b in
     let s = settings-kept.none-fresh .none in
     cc
 
@@ -114,3 +115,19 @@ module _ (c : ℕ) (t : Tables) where
   pub fine-sound : Fine t → Active (stateAt c t) → soundP (t .parts) ≡ true
   unfolding soundP
   fine-sound f a = and-i (and-i (and-i (f .requests) (f .queues)) (f .tasks)) (settled-stands ∙ a)
+
+-- ---- fresh tables, whole
+
+pub fresh-sound : (v : ℕ) → v < 2 ^ 32 → soundP (freshParts v) ≡ true
+fresh-sound v h = fine-sound 0 (freshTables v) (fresh-fine v h) (subst Active (sym (fresh-stands v noItems 0)) refl)
+
+pub fresh-told : (v : ℕ) → v < 2 ^ 32 → (b : List ℕ) → Fresh v (tables (freshParts v) b)
+unfolding freshParts freshAt
+fresh-told v h b = record { register = refl; soundly = fresh-sound v h; empty = fresh-stands v b }
+
+-- both clauses
+pub fresh-parts : (v : ℕ) → v < 2 ^ 32 → (p : Parts) → p ≡ freshParts v → (p ≡ freshParts v) × ((b : List ℕ) → Fresh v (tables p b))
+fresh-parts v h p e = (e, λ b. subst (λ (x : Parts). Fresh v (tables x b)) (sym e) (fresh-told v h b))
+
+pub fresh-whole : (v : ℕ) → v < 2 ^ 32 → (t : Tables) → t ≡ freshTables v → (t ≡ freshTables v) × Fresh v t
+fresh-whole v h t e = (e, subst (Fresh v) (sym e) (fresh-told v h noItems))

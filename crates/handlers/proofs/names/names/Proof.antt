@@ -4,12 +4,13 @@ use mathlib.Core.List.{List, map}
 use Prim.Native.Nat.{ℕ, _-_, _≤_, min}
 use lib.ListN.{length, take, replicate, length-take}
 use Rattle.base.specs.Lists.{over}
+use Rattle.base.specs.Laws.Scans.{take-least}
+use Rattle.base.specs.Laws.Gather.{column-more}
 use Rattle.handlers.specs.declared.Task.{Task}
 use Rattle.handlers.specs.declared.Tasks.{Tasks}
 use Rattle.handlers.specs.Table.{live}
 use Rattle.handlers.specs.Rows.{outRow}
 use Rattle.handlers.specs.Names.{nameOf, namesIn}
-use Rattle.handlers.specs.Laws.Lists.{take-least, column-more}
 use Rattle.handlers.proofs.Typed.{unmapped, listed}
 use Rattle.handlers.proofs.Clauses.{names-both}
 use borrow.Author.Needs.{needs}

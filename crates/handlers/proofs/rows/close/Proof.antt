@@ -3,12 +3,13 @@ use mathlib.Core.Path.{_≡_, sym, ap, ap₂, _∙_}
 use mathlib.Core.List.{List}
 use Prim.Native.Nat.{ℕ, _+_, _≤_, _<_, _-_, min}
 use lib.ListN.{length, take, length-take}
-use Rattle.base.specs.Lists.{over}
+use Rattle.base.specs.Lists.{over, cutAt}
+use Rattle.base.specs.Laws.Cut.{cut-none, cut-more, length-cut}
+use Rattle.base.specs.Laws.Scans.{take-least}
 use Rattle.handlers.specs.declared.Task.{Task}
 use Rattle.handlers.specs.declared.Tasks.{Tasks}
 use Rattle.handlers.specs.Table.{live}
-use Rattle.handlers.specs.Rows.{cutAt, outRow}
-use Rattle.handlers.specs.Laws.Lists.{cut-none, cut-more, length-cut, take-least}
+use Rattle.handlers.specs.Rows.{outRow}
 use Rattle.handlers.proofs.Typed.{unmapped, withRows, counted}
 use borrow.Author.Needs.{needs}
 use native.Mathlib.Omega.{arith}

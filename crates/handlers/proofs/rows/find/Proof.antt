@@ -4,10 +4,10 @@ use Prim.Native.Nat.{_+_, _-_, _≤_, min}
 use lib.ListN.{length, drop}
 use borrow.Author.Tests.{eq-eqb, ne-eqb}
 use Rattle.base.specs.Lists.{first, firstAt}
+use Rattle.base.specs.Laws.Scans.{firstAt-hit, firstAt-miss, firstAt-end, first-hit, first-miss, first-end}
 use Rattle.handlers.specs.declared.Tasks.{Tasks}
 use Rattle.handlers.specs.Table.{live}
 use Rattle.handlers.specs.Rows.{named, outRow, unsetRow, placeIn, taskIn}
-use Rattle.handlers.specs.Laws.Lists.{firstAt-hit, firstAt-miss, firstAt-end, first-hit, first-miss, first-end}
 use Rattle.handlers.proofs.Typed.{unmapped, found}
 use borrow.Author.Needs.{needs}
 use native.Mathlib.Omega.{arith}
@@ -40,8 +40,8 @@ returns c =
     let l = c .before .before .before .before .loop in
     let a = c .before .before .before .before .before .before .args in
     let t : Tasks = a .t1 in
-    let e = firstAt-hit (named (a .name)) (t .count) (t .rows) (l .i) outRow (omega arith) (omega arith) (eq-eqb _ _ (c .if1 .taken)) in
-    let f = first-hit (named (a .name)) (t .count) (t .rows) (l .i) outRow (omega arith) (omega arith) (unsetRow (a .name)) (eq-eqb _ _ (c .if1 .taken)) in
+    let e = firstAt-hit (t .rows) (t .count) (l .i) (named (a .name)) outRow (omega arith) (omega arith) (eq-eqb _ _ (c .if1 .taken)) in
+    let f = first-hit (t .rows) (t .count) (l .i) (named (a .name)) outRow (omega arith) (omega arith) (unsetRow (a .name)) (eq-eqb _ _ (c .if1 .taken)) in
     let v = l .inv .3 in
     let p : l .i ≡ placeIn t (a .name) = omega arith in
     ap₂ found p (sym (l .inv .4 ∙ f))
@@ -57,9 +57,9 @@ loop-again c =
     let l = c .before .before .before .before .loop in
     let a = c .before .before .before .before .before .before .args in
     let t : Tasks = a .t1 in
-    let e = firstAt-miss (named (a .name)) (t .count) (t .rows) (l .i) outRow (omega arith) (omega arith) (ne-eqb _ _ (c .if1 .left)) in
-    let f = first-miss (named (a .name)) (t .count) (t .rows) (l .i) outRow (omega arith) (omega arith) (unsetRow (a .name)) (ne-eqb _ _ (c .if1 .left)) in
-    (omega arith, l .inv .1, l .inv .2, omega arith, l .inv .4 ∙ f)
+    let e = firstAt-miss (t .rows) (t .count) (l .i) (named (a .name)) outRow (omega arith) (omega arith) (ne-eqb _ _ (c .if1 .left)) in
+    let f = first-miss (t .rows) (t .count) (l .i) (named (a .name)) outRow (omega arith) (omega arith) (unsetRow (a .name)) (ne-eqb _ _ (c .if1 .left)) in
+    (omega arith, l .inv .1, l .inv .2, omega arith, l .inv .4 ∙ sym f)
 
 unset-row-requires : tie.Need-unset-row-requires Inv-loop μ-loop
 unset-row-requires c κs = search needs
@@ -69,8 +69,8 @@ returns-2 c =
     let l = c .before .before .loop in
     let a = c .before .before .before .before .args in
     let t : Tasks = a .t1 in
-    let e = firstAt-end (named (a .name)) (t .count) (t .rows) (l .i) (omega arith) in
-    let f = first-end (named (a .name)) (t .count) (t .rows) (unsetRow (a .name)) (l .i) (omega arith) in
+    let e = firstAt-end (t .rows) (t .count) (l .i) (named (a .name)) (omega arith) in
+    let f = first-end (t .rows) (t .count) (l .i) (named (a .name)) (unsetRow (a .name)) (omega arith) in
     let v = l .inv .3 in
     let p : l .i ≡ placeIn t (a .name) = omega arith in
     ap₂ found p (c .unset-row .ensures ∙ sym (l .inv .4 ∙ f))

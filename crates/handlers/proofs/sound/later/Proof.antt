@@ -5,7 +5,7 @@ use lib.ListN.{length, take, drop}
 use borrow.Author.Tests.{eq-eqb, ne-eqb}
 use lib.Dec.{eqb}
 use Rattle.base.specs.Lists.{has}
-use Rattle.handlers.specs.Laws.Lists.{any-hit, any-miss, any-end}
+use Rattle.base.specs.Laws.Scans.{any-hit, any-miss, any-end}
 use borrow.Author.Needs.{needs}
 use native.Mathlib.Omega.{arith}
 use Rattle.handlers.proofs.sound.later.Statement.{statement}
@@ -33,7 +33,7 @@ returns : tie.Need-returns Inv-loop μ-loop
 returns c =
     let l = c .before .before .before .loop in
     let a = c .before .before .before .before .before .before .args in
-    sym (any-hit (λ k. eqb k (a .x)) (a .n) (a .l .now) (l .i) 0 (omega arith) (omega arith) (eq-eqb _ _ (c .if1 .taken))) ∙ l .inv .1
+    sym (any-hit (a .l .now) (a .n) (l .i) (λ k. eqb k (a .x)) 0 (omega arith) (omega arith) (eq-eqb _ _ (c .if1 .taken))) ∙ l .inv .1
 
 add-i : tie.Need-add-i Inv-loop μ-loop
 add-i c = search needs
@@ -45,14 +45,14 @@ loop-again : tie.Need-loop-again Inv-loop μ-loop
 loop-again c =
     let l = c .before .before .before .loop in
     let a = c .before .before .before .before .before .before .args in
-    let e = any-miss (λ k. eqb k (a .x)) (a .n) (a .l .now) (l .i) 0 (omega arith) (omega arith) (ne-eqb _ _ (c .if1 .left)) in
-    (l .inv .0, sym e ∙ l .inv .1)
+    let e = any-miss (a .l .now) (a .n) (l .i) (λ k. eqb k (a .x)) 0 (omega arith) (omega arith) (ne-eqb _ _ (c .if1 .left)) in
+    (l .inv .0, e ∙ l .inv .1)
 
 returns-2 : tie.Need-returns-2 Inv-loop μ-loop
 returns-2 c =
     let l = c .before .loop in
     let a = c .before .before .before .before .args in
-    sym (any-end (λ k. eqb k (a .x)) (a .n) (a .l .now) (l .i) (omega arith)) ∙ l .inv .1
+    sym (any-end (a .l .now) (a .n) (l .i) (λ k. eqb k (a .x)) (omega arith)) ∙ l .inv .1
 
 pub later-spec : {M : Type 1} → statement M
 later-spec =

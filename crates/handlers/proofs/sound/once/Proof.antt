@@ -3,7 +3,7 @@ use mathlib.Core.Path.{_≡_, refl, sym, _∙_}
 use Prim.Native.Nat.{_≤_, _-_, min}
 use lib.ListN.{length, take, drop}
 use Rattle.base.specs.Lists.{once}
-use Rattle.handlers.specs.Laws.Lists.{once-hit, once-miss, once-end}
+use Rattle.base.specs.Laws.Scans.{once-left, twice-left, once-left-end}
 use borrow.Author.Needs.{needs}
 use native.Mathlib.Omega.{arith}
 use Rattle.handlers.proofs.sound.once.Statement.{statement}
@@ -37,7 +37,7 @@ returns : tie.Need-returns Inv-loop μ-loop
 returns c =
     let l = c .before .before .before .before .loop in
     let a = c .before .before .before .before .before .before .before .args in
-    sym (once-miss (a .n) (a .l .now) (l .i) (omega arith) (omega arith) (sym (c .before .later .ensures) ∙ c .if1 .taken)) ∙ l .inv .2
+    sym (twice-left (a .l .now) (a .n) (l .i) (omega arith) (omega arith) (sym (c .before .later .ensures) ∙ c .if1 .taken)) ∙ l .inv .2
 
 add-i : tie.Need-add-i Inv-loop μ-loop
 add-i c = search needs
@@ -49,14 +49,14 @@ loop-again : tie.Need-loop-again Inv-loop μ-loop
 loop-again c =
     let l = c .before .before .before .before .loop in
     let a = c .before .before .before .before .before .before .before .args in
-    let e = once-hit (a .n) (a .l .now) (l .i) (omega arith) (omega arith) (sym (c .before .later .ensures) ∙ c .if1 .left) in
-    (omega arith, l .inv .1, sym e ∙ l .inv .2)
+    let e = once-left (a .l .now) (a .n) (l .i) (omega arith) (omega arith) (sym (c .before .later .ensures) ∙ c .if1 .left) in
+    (omega arith, l .inv .1, e ∙ l .inv .2)
 
 returns-2 : tie.Need-returns-2 Inv-loop μ-loop
 returns-2 c =
     let l = c .before .loop in
     let a = c .before .before .before .before .args in
-    sym (once-end (a .n) (a .l .now) (l .i) (omega arith)) ∙ l .inv .2
+    sym (once-left-end (a .l .now) (a .n) (l .i) (omega arith)) ∙ l .inv .2
 
 pub once-spec : {M : Type 1} → statement M
 once-spec =

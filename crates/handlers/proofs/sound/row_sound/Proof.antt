@@ -3,9 +3,9 @@ use mathlib.Core.Path.{_≡_, refl, sym, _∙_}
 use Prim.Native.Nat.{_≤_, _-_}
 use lib.ListN.{length, take, drop}
 use Rattle.base.specs.Lists.{all}
+use Rattle.base.specs.Laws.Scans.{all-hit, all-miss, all-end}
 use Rattle.handlers.specs.declared.Task.{Task}
 use Rattle.handlers.specs.Rows.{unset}
-use Rattle.handlers.specs.Laws.Lists.{all-hit, all-miss, all-end}
 use Rattle.handlers.proofs.Typed.{unmapped-cells}
 use Rattle.handlers.proofs.RowSound.{labelledCell, row-sound-all}
 use borrow.Author.Needs.{needs}
@@ -41,21 +41,21 @@ loop-again : tie.Need-loop-again Inv-loop μ-loop
 loop-again c =
     let l = c .before .before .before .before .loop in
     let v : Task = c .before .before .before .before .before .args .t1 in
-    let e = all-hit labelledCell 11 (v .cells) (l .i) unset (omega arith) (omega arith) (sym (c .before .labelled .ensures) ∙ c .if1 .taken) in
-    (omega arith, l .inv .1, sym e ∙ l .inv .2)
+    let e = all-hit (v .cells) 11 (l .i) labelledCell unset (omega arith) (omega arith) (sym (c .before .labelled .ensures) ∙ c .if1 .taken) in
+    (omega arith, l .inv .1, e ∙ l .inv .2)
 
 returns : tie.Need-returns Inv-loop μ-loop
 returns c =
     let l = c .before .before .before .before .loop in
     let v : Task = c .before .before .before .before .before .args .t1 in
-    let e = all-miss labelledCell 11 (v .cells) (l .i) unset (omega arith) (omega arith) (sym (c .before .labelled .ensures) ∙ c .if1 .left) in
+    let e = all-miss (v .cells) 11 (l .i) labelledCell unset (omega arith) (omega arith) (sym (c .before .labelled .ensures) ∙ c .if1 .left) in
     sym e ∙ l .inv .2 ∙ sym (row-sound-all v (l .inv .1))
 
 returns-2 : tie.Need-returns-2 Inv-loop μ-loop
 returns-2 c =
     let l = c .before .loop in
     let v : Task = c .before .before .args .t1 in
-    sym (all-end labelledCell 11 (v .cells) (l .i) (omega arith)) ∙ l .inv .2 ∙ sym (row-sound-all v (l .inv .1))
+    sym (all-end (v .cells) 11 (l .i) labelledCell (omega arith)) ∙ l .inv .2 ∙ sym (row-sound-all v (l .inv .1))
 
 pub row-sound-spec : {M : Type 1} → statement M
 row-sound-spec =

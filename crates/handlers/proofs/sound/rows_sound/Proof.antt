@@ -3,10 +3,10 @@ use mathlib.Core.Path.{_≡_, refl, sym, _∙_}
 use Prim.Native.Nat.{_≤_, _-_, min}
 use lib.ListN.{length, drop}
 use Rattle.base.specs.Lists.{all}
+use Rattle.base.specs.Laws.Scans.{all-hit, all-miss, all-end}
 use Rattle.handlers.specs.declared.Tasks.{Tasks}
 use Rattle.handlers.specs.Table.{live}
 use Rattle.handlers.specs.Rows.{soundRow, outRow}
-use Rattle.handlers.specs.Laws.Lists.{all-hit, all-miss, all-end}
 use Rattle.handlers.proofs.Typed.{unmapped}
 use borrow.Author.Needs.{needs}
 use native.Mathlib.Omega.{arith}
@@ -45,15 +45,15 @@ loop-again c =
     let l = c .before .before .before .before .loop in
     let a = c .before .before .before .before .before .before .args in
     let t : Tasks = a .t1 in
-    let e = all-hit soundRow (t .count) (t .rows) (l .i) outRow (omega arith) (omega arith) (sym (c .before .row-sound .ensures) ∙ c .if1 .taken) in
-    (omega arith, l .inv .1, l .inv .2, sym e ∙ l .inv .3)
+    let e = all-hit (t .rows) (t .count) (l .i) soundRow outRow (omega arith) (omega arith) (sym (c .before .row-sound .ensures) ∙ c .if1 .taken) in
+    (omega arith, l .inv .1, l .inv .2, e ∙ l .inv .3)
 
 returns : tie.Need-returns Inv-loop μ-loop
 returns c =
     let l = c .before .before .before .before .loop in
     let a = c .before .before .before .before .before .before .args in
     let t : Tasks = a .t1 in
-    let e = all-miss soundRow (t .count) (t .rows) (l .i) outRow (omega arith) (omega arith) (sym (c .before .row-sound .ensures) ∙ c .if1 .left) in
+    let e = all-miss (t .rows) (t .count) (l .i) soundRow outRow (omega arith) (omega arith) (sym (c .before .row-sound .ensures) ∙ c .if1 .left) in
     sym e ∙ l .inv .3
 
 returns-2 : tie.Need-returns-2 Inv-loop μ-loop
@@ -61,7 +61,7 @@ returns-2 c =
     let l = c .before .loop in
     let a = c .before .before .before .args in
     let t : Tasks = a .t1 in
-    sym (all-end soundRow (t .count) (t .rows) (l .i) (omega arith)) ∙ l .inv .3
+    sym (all-end (t .rows) (t .count) (l .i) soundRow (omega arith)) ∙ l .inv .3
 
 pub rows-sound-spec : {M : Type 1} → statement M
 rows-sound-spec =

@@ -1,31 +1,21 @@
 -- `dispatch::busy_in` meets its contract: what is gathered, and behind it what is left, are the columns of all. Assumes nothing.
 use mathlib.Core.Path.{_≡_, refl, sym, ap, _∙_}
-use mathlib.Core.List.{List, _++_, map}
 use mathlib.Core.Logic.{⊎-elim}
-use Prim.Native.Nat.{ℕ, _+_, _≤_, _-_, min}
-use lib.ListN.{length, take, drop, getD, length-set, length-replicate}
-use Rattle.base.specs.Lists.{keep}
-use Rattle.interval.specs.declared.Request.{Request}
+use Prim.Native.Nat.{ℕ, _<_, _≤_, _-_}
+use lib.ListN.{length, length-replicate}
 use Rattle.interval.specs.declared.Requests.{Requests}
 use Rattle.interval.specs.declared.dispatch.Busy.{Busy}
-use Rattle.interval.specs.Table.{live}
-use Rattle.interval.specs.Rows.{active, outRow}
+use Rattle.interval.specs.Rows.{active}
 use Rattle.interval.specs.Dispatch.{programOf, terminalOf}
-use Rattle.interval.specs.ListLaws.{gather-hit, gather-miss, gather-end}
 use Rattle.interval.specs.Laws.Typed.{unmapped}
+use Rattle.interval.proofs.Gathers.{Gathered, gathers-hit, gathers-miss, gathers-end}
 use borrow.Author.Needs.{needs}
 use native.Mathlib.Omega.{arith}
 use Rattle.interval.proofs.dispatch.busy_in.Statement.{statement}
 use Rattle.interval.proofs.dispatch.busy_in.Tie as tie
 
--- a column of the active rows from i on, behind what was gathered
-abbrev Left : (Request → ℕ) → Requests → List ℕ → ℕ → ℕ → Type 0
-Left f t col n i = take n col ++ map f (keep active (drop i (live t))) ≡ map f (keep active (live t))
-
 abbrev Inv-loop : tie.InvT-loop
-Inv-loop t m b₀ i₀ b i =
-    (i ≤ m) × (m ≡ min (t .count) 32) × (length (t .rows) ≡ 32) × (length (b .programs) ≡ 32) × (length (b .terminals) ≡ 32) × (b .n ≤ i)
-    × Left programOf t (b .programs) (b .n) i × Left terminalOf t (b .terminals) (b .n) i
+Inv-loop t m b₀ i₀ b i = Gathered programOf active t m i (b .programs) (b .n) × Gathered terminalOf active t m i (b .terminals) (b .n)
 
 abbrev μ-loop : tie.MeasureT-loop
 μ-loop t m b₀ i₀ b i = m - i
@@ -35,7 +25,12 @@ least-requires c κs = search needs
 
 loop-holds : tie.Need-loop-holds Inv-loop μ-loop
 loop-holds c =
-    (omega arith, c .least .ensures, search (needs, unmapped), length-replicate {A = ℕ} 32 0, length-replicate {A = ℕ} 32 0, omega arith, refl, refl)
+    let most = c .least .ensures in
+    let long : length (c .before .args .t1 .rows) ≡ 32 = search (needs, unmapped) in
+    let wide = length-replicate {A = ℕ} 32 0 in (
+      record { here = omega arith; most = most; long = long; wide = wide; few = omega arith; left = refl },
+      record { here = omega arith; most = most; long = long; wide = wide; few = omega arith; left = refl },
+    )
 
 mul-q : tie.Need-mul-q Inv-loop μ-loop
 mul-q c = search needs
@@ -72,32 +67,21 @@ loop-again c =
     let k = c .before in
     let l = k .before .before .before .loop in
     let t : Requests = k .before .before .before .before .before .args .t1 in
-    let q : Request = getD (t .rows) (l .i) outRow in
-    let v = l .inv in
+    let low : l .i < k .before .before .before .before .least .result = omega arith in
     ⊎-elim
     (λ w.
     let e = w .1 in
-    let a = sym (k .active .ensures) ∙ w .0 .taken in (
-      omega arith,
-      v .1,
-      v .2,
-      ap (λ (b : Busy). length (b .programs)) e ∙ length-set (l .b .programs) (l .b .n) (q .program) ∙ v .3,
-      ap (λ (b : Busy). length (b .terminals)) e ∙ length-set (l .b .terminals) (l .b .n) (q .terminal) ∙ v .4,
-      (let z : c .if1 .b .n ≡ l .b .n + 1 = ap (λ (b : Busy). b .n) e in omega arith),
-      rw e (gather-hit programOf active (t .count) (t .rows) (l .b .programs) _ (l .b .n) (l .i) outRow (omega arith) (omega arith) (v .6) a (omega arith)),
-      rw e (gather-hit terminalOf active (t .count) (t .rows) (l .b .terminals) _ (l .b .n) (l .i) outRow (omega arith) (omega arith) (v .7) a (omega arith)),
+    let a = sym (k .active .ensures) ∙ w .0 .taken in
+    let n = ap (λ (b : Busy). b .n) e in (
+      gathers-hit programOf active t _ (l .i) (l .b .programs) (l .b .n) (l .inv .0) low _ _ a (ap (λ (b : Busy). b .programs) e) n,
+      gathers-hit terminalOf active t _ (l .i) (l .b .terminals) (l .b .n) (l .inv .1) low _ _ a (ap (λ (b : Busy). b .terminals) e) n,
     ))
     (λ w.
     let e = w .1 in
-    let a = sym (k .active .ensures) ∙ w .0 .left in (
-      omega arith,
-      v .1,
-      v .2,
-      ap (λ (b : Busy). length (b .programs)) e ∙ v .3,
-      ap (λ (b : Busy). length (b .terminals)) e ∙ v .4,
-      (let z : c .if1 .b .n ≡ l .b .n = ap (λ (b : Busy). b .n) e in omega arith),
-      rw e (gather-miss programOf active (t .count) (t .rows) (l .b .programs) _ (l .b .n) (l .i) outRow (omega arith) (omega arith) (v .6) a),
-      rw e (gather-miss terminalOf active (t .count) (t .rows) (l .b .terminals) _ (l .b .n) (l .i) outRow (omega arith) (omega arith) (v .7) a),
+    let a = sym (k .active .ensures) ∙ w .0 .left in
+    let n = ap (λ (b : Busy). b .n) e in (
+      gathers-miss programOf active t _ (l .i) (l .b .programs) (l .b .n) (l .inv .0) low _ _ a (ap (λ (b : Busy). b .programs) e) n,
+      gathers-miss terminalOf active t _ (l .i) (l .b .terminals) (l .b .n) (l .inv .1) low _ _ a (ap (λ (b : Busy). b .terminals) e) n,
     ))
     (c .if1 .came)
 
@@ -105,9 +89,10 @@ returns : tie.Need-returns Inv-loop μ-loop
 returns c =
     let l = c .before .loop in
     let t : Requests = c .before .before .before .args .t1 in
+    let done : c .before .before .least .result ≤ l .i = omega arith in
     record {
-      programs = gather-end programOf active (t .count) (t .rows) (l .b .programs) _ (l .b .n) (l .i) (omega arith) (l .inv .6);
-      terminals = gather-end terminalOf active (t .count) (t .rows) (l .b .terminals) _ (l .b .n) (l .i) (omega arith) (l .inv .7);
+      programs = gathers-end programOf active t _ (l .i) (l .b .programs) (l .b .n) (l .inv .0) done;
+      terminals = gathers-end terminalOf active t _ (l .i) (l .b .terminals) (l .b .n) (l .inv .1) done;
     }
 
 pub busy-in-spec : {M : Type 1} → statement M

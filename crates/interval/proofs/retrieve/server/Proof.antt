@@ -1,24 +1,16 @@
 -- `retrieve::server` meets its contract: the rows passed do not serve. Assumes nothing.
-use mathlib.Core.Path.{_≡_}
-use Prim.Native.Nat.{_+_, _-_, _≤_, min}
-use lib.ListN.{length, drop}
+use Prim.Native.Nat.{_-_}
 use mathlib.Core.Path.{sym, _∙_}
-use Rattle.base.specs.Lists.{firstAt}
-use Rattle.interval.specs.declared.Requests.{Requests}
-use Rattle.interval.specs.Table.{live}
-use Rattle.interval.specs.Rows.{outRow}
 use Rattle.interval.specs.Retrieve.{serves}
-use Rattle.interval.specs.ListLaws.{firstAt-hit, firstAt-miss, firstAt-end}
 use Rattle.interval.specs.Laws.Typed.{unmapped}
+use Rattle.interval.proofs.Seeks.{Sought, seeks-on, seeks-hit, seeks-end}
 use borrow.Author.Needs.{needs}
 use native.Mathlib.Omega.{arith}
 use Rattle.interval.proofs.retrieve.server.Statement.{statement}
 use Rattle.interval.proofs.retrieve.server.Tie as tie
 
 abbrev Inv-loop : tie.InvT-loop
-Inv-loop program terminal t m i₀ i =
-    (i ≤ m) × (m ≡ min (t .count) 32) × (length (t .rows) ≡ 32)
-    × (firstAt (serves program terminal) (live t) ≡ i + firstAt (serves program terminal) (drop i (live t)))
+Inv-loop program terminal t m i₀ i = Sought (serves program terminal) t m i
 
 abbrev μ-loop : tie.MeasureT-loop
 μ-loop program terminal t m i₀ i = m - i
@@ -27,7 +19,7 @@ least-requires : tie.Need-least-requires Inv-loop μ-loop
 least-requires c κs = search needs
 
 loop-holds : tie.Need-loop-holds Inv-loop μ-loop
-loop-holds c = (omega arith, c .least .ensures, search (needs, unmapped), omega arith)
+loop-holds c = record { here = omega arith; most = c .least .ensures; long = search (needs, unmapped); first = omega arith }
 
 mul-q : tie.Need-mul-q Inv-loop μ-loop
 mul-q c = search needs
@@ -42,10 +34,7 @@ returns : tie.Need-returns Inv-loop μ-loop
 returns c =
     let l = c .before .before .before .before .loop in
     let a = c .before .before .before .before .before .before .args in
-    let t : Requests = a .t1 in
-    let e = firstAt-hit (serves (a .program) (a .terminal)) (t .count) (t .rows) (l .i) outRow (omega arith) (omega arith) (sym (c .before .serve .ensures) ∙ c .if1 .taken) in
-    let v = l .inv .3 in
-    omega arith
+    seeks-hit (serves (a .program) (a .terminal)) (a .t1) _ (l .i) (l .inv) (omega arith) (sym (c .before .serve .ensures) ∙ c .if1 .taken)
 
 add-i : tie.Need-add-i Inv-loop μ-loop
 add-i c = search needs
@@ -57,18 +46,13 @@ loop-again : tie.Need-loop-again Inv-loop μ-loop
 loop-again c =
     let l = c .before .before .before .before .loop in
     let a = c .before .before .before .before .before .before .args in
-    let t : Requests = a .t1 in
-    let e = firstAt-miss (serves (a .program) (a .terminal)) (t .count) (t .rows) (l .i) outRow (omega arith) (omega arith) (sym (c .before .serve .ensures) ∙ c .if1 .left) in
-    (omega arith, l .inv .1, l .inv .2, omega arith)
+    seeks-on (serves (a .program) (a .terminal)) (a .t1) _ (l .i) (l .inv) (omega arith) (sym (c .before .serve .ensures) ∙ c .if1 .left)
 
 returns-2 : tie.Need-returns-2 Inv-loop μ-loop
 returns-2 c =
     let l = c .before .loop in
     let a = c .before .before .before .args in
-    let t : Requests = a .t1 in
-    let e = firstAt-end (serves (a .program) (a .terminal)) (t .count) (t .rows) (l .i) (omega arith) in
-    let v = l .inv .3 in
-    omega arith
+    seeks-end (serves (a .program) (a .terminal)) (a .t1) _ (l .i) (l .inv) (c .loop-test .left)
 
 pub server-spec : {M : Type 1} → statement M
 server-spec =

@@ -3,12 +3,13 @@ use mathlib.Core.Path.{_≡_, sym, ap, ap₂, _∙_}
 use mathlib.Core.List.{List}
 use Prim.Native.Nat.{ℕ, _+_, _≤_, _<_, _-_, min}
 use lib.ListN.{length, take, length-take}
-use Rattle.base.specs.Lists.{over}
+use Rattle.base.specs.Lists.{over, cutAt}
+use Rattle.base.specs.Laws.Cut.{cut-none, cut-more, length-cut}
+use Rattle.base.specs.Laws.Scans.{take-least}
 use Rattle.interval.specs.declared.Request.{Request}
 use Rattle.interval.specs.declared.Requests.{Requests}
 use Rattle.interval.specs.Table.{live}
-use Rattle.interval.specs.Rows.{cutAt, outRow}
-use Rattle.interval.specs.ListLaws.{cut-none, cut-more, length-cut, take-least}
+use Rattle.interval.specs.Rows.{outRow}
 use Rattle.interval.specs.Laws.Typed.{unmapped, withRows, counted}
 use borrow.Author.Needs.{needs}
 use native.Mathlib.Omega.{arith}

@@ -5,7 +5,7 @@ use lib.ListN.{length, take, drop}
 use borrow.Author.Tests.{eq-eqb, ne-eqb}
 use lib.Dec.{eqb}
 use Rattle.base.specs.Lists.{has}
-use Rattle.interval.specs.ListLaws.{any-hit, any-miss, any-end}
+use Rattle.base.specs.Laws.Scans.{any-hit, any-miss, any-end}
 use borrow.Author.Needs.{needs}
 use native.Mathlib.Omega.{arith}
 use Rattle.interval.proofs.rows.known.Statement.{statement}
@@ -33,7 +33,7 @@ returns : tie.Need-returns Inv-loop μ-loop
 returns c =
     let l = c .before .before .before .loop in
     let a = c .before .before .before .before .before .before .args in
-    sym (any-hit (λ m. eqb m (a .name)) (a .count) (a .names .now) (l .i) 0 (omega arith) (omega arith) (eq-eqb _ _ (c .if1 .taken))) ∙ l .inv .2
+    sym (any-hit (a .names .now) (a .count) (l .i) (λ m. eqb m (a .name)) 0 (omega arith) (omega arith) (eq-eqb _ _ (c .if1 .taken))) ∙ l .inv .2
 
 add-i : tie.Need-add-i Inv-loop μ-loop
 add-i c = search needs
@@ -45,14 +45,14 @@ loop-again : tie.Need-loop-again Inv-loop μ-loop
 loop-again c =
     let l = c .before .before .before .loop in
     let a = c .before .before .before .before .before .before .args in
-    let e = any-miss (λ m. eqb m (a .name)) (a .count) (a .names .now) (l .i) 0 (omega arith) (omega arith) (ne-eqb _ _ (c .if1 .left)) in
-    (omega arith, l .inv .1, sym e ∙ l .inv .2)
+    let e = any-miss (a .names .now) (a .count) (l .i) (λ m. eqb m (a .name)) 0 (omega arith) (omega arith) (ne-eqb _ _ (c .if1 .left)) in
+    (omega arith, l .inv .1, e ∙ l .inv .2)
 
 returns-2 : tie.Need-returns-2 Inv-loop μ-loop
 returns-2 c =
     let l = c .before .loop in
     let a = c .before .before .before .before .args in
-    sym (any-end (λ m. eqb m (a .name)) (a .count) (a .names .now) (l .i) (omega arith)) ∙ l .inv .2
+    sym (any-end (a .names .now) (a .count) (l .i) (λ m. eqb m (a .name)) (omega arith)) ∙ l .inv .2
 
 pub known-spec : {M : Type 1} → statement M
 known-spec =

@@ -1,25 +1,21 @@
 -- `sound::gather` meets its contract: what is gathered, and behind it what the rows left have, is the column. Assumes nothing.
-use mathlib.Core.Path.{_≡_, refl, sym, ap, ap₂, _∙_}
-use mathlib.Core.List.{List, _++_}
+use mathlib.Core.Path.{_≡_, refl, sym, ap, _∙_}
 use mathlib.Core.Logic.{⊎-elim}
-use Prim.Native.Nat.{ℕ, _≤_, _-_, _+_, min}
-use lib.ListN.{length, take, drop, getD, set, length-set, length-replicate}
+use Prim.Native.Nat.{ℕ, _<_, _-_}
+use lib.ListN.{getD, set, length-replicate}
 use Rattle.interval.specs.declared.Requests.{Requests}
 use Rattle.interval.specs.declared.sound.Key.{Key}
-use Rattle.interval.specs.Table.{live}
 use Rattle.interval.specs.Rows.{outRow}
-use Rattle.interval.specs.Sound.{keyOf, valueIn, isIn, column}
-use Rattle.interval.specs.ListLaws.{gather-hit, gather-miss, gather-end}
+use Rattle.interval.specs.Sound.{keyOf, valueIn, isIn}
 use Rattle.interval.specs.Laws.Typed.{unmapped}
+use Rattle.interval.proofs.Gathers.{Gathered, gathers-hit, gathers-miss, gathers-end}
 use borrow.Author.Needs.{needs}
 use native.Mathlib.Omega.{arith}
 use Rattle.interval.proofs.sound.gather.Statement.{statement}
 use Rattle.interval.proofs.sound.gather.Tie as tie
 
 abbrev Inv-loop : tie.InvT-loop
-Inv-loop which t m list₀ n₀ i₀ list n i =
-    (i ≤ m) × (m ≡ min (t .count) 32) × (length (t .rows) ≡ 32) × (length list ≡ 32) × (n ≤ i)
-    × (take n list ++ column which (drop i (live t)) ≡ column which (live t))
+Inv-loop which t m list₀ n₀ i₀ list n i = Gathered (valueIn which) (isIn which) t m i list n
 
 abbrev μ-loop : tie.MeasureT-loop
 μ-loop which t m list₀ n₀ i₀ list n i = m - i
@@ -28,7 +24,8 @@ least-requires : tie.Need-least-requires Inv-loop μ-loop
 least-requires c κs = search needs
 
 loop-holds : tie.Need-loop-holds Inv-loop μ-loop
-loop-holds c = (omega arith, c .least .ensures, search (needs, unmapped), length-replicate {A = ℕ} 32 0, omega arith, refl)
+loop-holds c =
+    record { here = omega arith; most = c .least .ensures; long = search (needs, unmapped); wide = length-replicate {A = ℕ} 32 0; few = omega arith; left = refl }
 
 mul-q : tie.Need-mul-q Inv-loop μ-loop
 mul-q c = search needs
@@ -61,33 +58,19 @@ loop-again c =
     let t : Requests = a .t1 in
     let w : ℕ = a .which in
     let e : c .before .key-of .result ≡ keyOf w (getD (t .rows) (l .i) outRow) = c .before .key-of .ensures in
+    let low : l .i < c .before .before .before .before .before .least .result = omega arith in
     ⊎-elim
-    (λ h. (
-      omega arith,
-      l .inv .1,
-      l .inv .2,
-      ap length (h .1) ∙ (simp length-set) ∙ l .inv .3,
-      omega arith,
-      ap₂ (λ (k : ℕ) (x : List ℕ). take k x ++ column w (drop (l .i + 1) (live t))) (h .2) (h .1 ∙ ap (λ (y : Key). set (l .list) (l .n) (y .value)) e)
-          ∙ gather-hit (valueIn w) (isIn w) (t .count) (t .rows) (l .list) (column w (live t)) (l .n) (l .i) outRow (omega arith) (omega arith) (l .inv .5) (sym (ap (λ (y : Key). y .on) e) ∙ h .0 .taken) (omega arith),
-    ))
-    (λ h. (
-      omega arith,
-      l .inv .1,
-      l .inv .2,
-      ap length (h .1) ∙ l .inv .3,
-      omega arith,
-      ap₂ (λ (k : ℕ) (x : List ℕ). take k x ++ column w (drop (l .i + 1) (live t))) (h .2) (h .1)
-          ∙ gather-miss (valueIn w) (isIn w) (t .count) (t .rows) (l .list) (column w (live t)) (l .n) (l .i) outRow (omega arith) (omega arith) (l .inv .5) (sym (ap (λ (y : Key). y .on) e) ∙ h .0 .left),
-    ))
+    (λ h.
+    gathers-hit (valueIn w) (isIn w) t _ (l .i) (l .list) (l .n) (l .inv) low _ _ (sym (ap (λ (y : Key). y .on) e) ∙ h .0 .taken)
+    (h .1 ∙ ap (λ (y : Key). set (l .list) (l .n) (y .value)) e) (h .2))
+    (λ h. gathers-miss (valueIn w) (isIn w) t _ (l .i) (l .list) (l .n) (l .inv) low _ _ (sym (ap (λ (y : Key). y .on) e) ∙ h .0 .left) (h .1) (h .2))
     (c .if1 .came)
 
 returns : tie.Need-returns Inv-loop μ-loop
 returns c =
     let l = c .before .loop in
     let a = c .before .before .before .args in
-    let t : Requests = a .t1 in
-    gather-end (valueIn (a .which)) (isIn (a .which)) (t .count) (t .rows) (l .list) (column (a .which) (live t)) (l .n) (l .i) (omega arith) (l .inv .5)
+    gathers-end (valueIn (a .which)) (isIn (a .which)) (a .t1) _ (l .i) (l .list) (l .n) (l .inv) (omega arith)
 
 pub gather-spec : {M : Type 1} → statement M
 gather-spec =

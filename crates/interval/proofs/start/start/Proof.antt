@@ -5,11 +5,11 @@ use Prim.Native.Nat.{_<_, _^_}
 use lib.ListN.{length, getD}
 use borrow.Author.Tests.{lt-ltb}
 use Rattle.base.specs.Bytes.{isByte, isBytes}
+use Rattle.base.specs.Laws.Keep.{all-by-getD}
 use Rattle.model.specs.Interval as model
 use Rattle.interval.specs.declared.answers.Start.the-variants as answers
 use Rattle.interval.specs.Table.{live}
 use Rattle.interval.specs.Start.{asked, ruled}
-use Rattle.interval.specs.ListLaws.{all-by-getD}
 use Rattle.interval.specs.Laws.Typed.{unmapped}
 use Rattle.interval.specs.Laws.Start.{Clear, start-same, start-facts, start-put, start-told, start-count}
 use native.Mathlib.Omega.{arith}

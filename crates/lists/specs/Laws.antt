@@ -1,0 +1,4 @@
+pub mod Answers
+pub mod Leaves
+pub mod Runs
+pub mod Model

@@ -1,0 +1,27 @@
+-- `text::put_pair` meets its contract. Assumes nothing.
+use borrow.Author.Needs.{needs}
+use Rattle.print.proofs.text.put_pair.Statement.{statement}
+use Rattle.print.proofs.text.put_pair.Tie as tie
+
+glyph-requires : tie.Need-glyph-requires
+glyph-requires c κs = search needs
+
+put-requires : tie.Need-put-requires
+put-requires c κs = search needs
+
+glyph-requires-2 : tie.Need-glyph-requires-2
+glyph-requires-2 c κs = search needs
+
+put-requires-2 : tie.Need-put-requires-2
+put-requires-2 c κs = search needs
+
+same-length : tie.Need-same-length
+same-length c = search needs
+
+returns : tie.Need-returns
+returns c = cc
+
+pub put-pair-spec : {M : Type 1} → statement M
+put-pair-spec =
+    tie.close
+    (tie.spec glyph-requires put-requires glyph-requires-2 put-requires-2 same-length returns)
