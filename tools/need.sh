@@ -27,3 +27,17 @@ need_perl() {
   echo "perl is not on the PATH: install it first" >&2
   exit 1
 }
+
+# A C compiler, for the program that embeds the monitor.
+need_cc() {
+  command -v cc >/dev/null 2>&1 && return
+  echo "cc is not on the PATH: install a C compiler first (Debian: apt-get install gcc libc6-dev)" >&2
+  exit 1
+}
+
+# valgrind counts instructions, for the benchmark alone.
+need_valgrind() {
+  command -v valgrind >/dev/null 2>&1 && return
+  echo "valgrind is not on the PATH: install it first (Debian: apt-get install valgrind)" >&2
+  exit 1
+}

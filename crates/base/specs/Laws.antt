@@ -11,3 +11,4 @@ pub mod Gather
 pub mod Cut
 pub mod Index
 pub mod Told
+pub mod Unique

@@ -1,5 +1,5 @@
 -- Rows: their names, a task with nothing set, a setting read and made, and the rows without one of them.
-use Prim.Native.Nat.{ℕ}
+use Prim.Native.Nat.{ℕ, suc}
 use mathlib.Core.Bool.{Bool}
 use mathlib.Core.List.{[]}
 use lib.Dec.{eqb}

@@ -13,7 +13,7 @@ use lib.Seq.{length-take-le}
 use borrow.Author.Tests.{eq-eqb, ne-eqb, lt-ltb, le-leb, lt-leb, leb-true}
 use Rattle.base.specs.Lists.{all, has, once}
 use Rattle.base.specs.Bytes.{isByte, isBytes, blank, isName}
-use Rattle.base.specs.Laws.Tests.{byTest, and-i, leb-add, ltb-add}
+use Rattle.base.specs.Laws.Tests.{and-none, byTest, and-i, leb-add, ltb-add}
 use Rattle.base.specs.Laws.Bytes.{isBytes-take}
 use Rattle.base.specs.Laws.Keep.{all-by-getD}
 use Rattle.model.specs.Limits.{cabinet, isData}
@@ -27,10 +27,6 @@ use Rattle.interval.specs.Table.{programsOf, terminalsOf}
 use Rattle.interval.specs.Stands.{phaseAt}
 use Rattle.interval.specs.Rows.{active, dataOf}
 use Rattle.interval.specs.Sound.{phaseFits, soundRow, soundIn, keyOf}
-
-and-none : (a : Bool) → false ≡ (a && false)
-and-none true = refl
-and-none false = refl
 
 and-true : (a : Bool) → a ≡ (a && true)
 and-true true = refl

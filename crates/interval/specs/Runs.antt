@@ -55,22 +55,22 @@ inRange (Remove n) = ltb n (2 ^ 64)
 
 -- ---- by the exact definitions
 
-abbrev definedOf : Defined → Outcome Requests
+abbrev pub definedOf : Defined → Outcome Requests
 definedOf r = record { condition = defineGives (r .outcome); number = 0; bytes = []; state = r .requests }
 
-abbrev advancedOf : Advanced → Outcome Requests
+abbrev pub advancedOf : Advanced → Outcome Requests
 advancedOf r = record { condition = conditionOf (r .outcome); number = numberOf (r .outcome); bytes = []; state = r .requests }
 
-abbrev dispatchedOf : Dispatched → Outcome Requests
+abbrev pub dispatchedOf : Dispatched → Outcome Requests
 dispatchedOf r = record { condition = dispatchGives (r .outcome); number = dispatchNumber (r .outcome); bytes = dispatchBytes (r .outcome); state = r .requests }
 
-abbrev startedOf : Started → Outcome Requests
+abbrev pub startedOf : Started → Outcome Requests
 startedOf r = record { condition = startGives (r .outcome); number = 0; bytes = []; state = r .requests }
 
-abbrev cancelledOf : Cancelled → Outcome Requests
+abbrev pub cancelledOf : Cancelled → Outcome Requests
 cancelledOf r = record { condition = cancelGives (r .outcome); number = 0; bytes = []; state = r .requests }
 
-abbrev retrievedOf : Retrieved → Outcome Requests
+abbrev pub retrievedOf : Retrieved → Outcome Requests
 retrievedOf r = record { condition = retrieveGives (r .outcome); number = r .full; bytes = take (r .len) (r .bytes); state = r .requests }
 
 abbrev pub turn : Requests → Ask → Outcome Requests

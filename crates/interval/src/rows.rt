@@ -88,8 +88,7 @@ pub(crate) fn place(t: Requests, name: u64) -> usize
     let m = least(t.count, 32);
     let mut i: usize = 0;
     while i < m {
-        let q = t.rows[i];
-        if q.name == name {
+        if t.rows[i].name == name {
             return i;
         }
         i += 1;

@@ -24,10 +24,6 @@ told f {d = d} same s-is = ap (askedIn (f d .state)) s-is ∙ ap (λ x. asks (f 
 pub plainly : {k n : ℕ} {s : Said} → k ≡ n → s ≡ saying k 0 [] → s ≡ saying n 0 []
 plainly k-is s-is = s-is ∙ ap (λ (x : ℕ). saying x 0 []) k-is
 
--- what a definition comes to, of a program and of a terminal alike
-abbrev pub definedOf : Defined → Outcome Requests
-definedOf r = record { condition = defineGives (r .outcome); number = 0; bytes = []; state = r .requests }
-
 -- the five operands of a start, each as it is read
 pub read-alike :
     {n p m i n' p' m' i' : ℕ} {b b' : List ℕ} → n ≡ n' → p ≡ p' → m ≡ m' → i ≡ i' → b ≡ b' → asked n p m i b ≡ asked n' p' m' i' b'

@@ -9,7 +9,7 @@ use lib.ListN.{length, take, drop, getD}
 use borrow.Author.Tests.{eqb-true, lt-ltb, leb-true, leb-false}
 use Rattle.base.specs.Lists.{all, has, once, within, copies}
 use Rattle.base.specs.Bytes.{blank}
-use Rattle.base.specs.Laws.Tests.{byTest}
+use Rattle.base.specs.Laws.Tests.{and-none, byTest}
 use Rattle.base.specs.Laws.Keep.{all-none, all-same}
 use Rattle.base.specs.Laws.Scans.{left-cons, left-end}
 use Rattle.slots.specs.declared.Used.{Used}
@@ -21,10 +21,6 @@ use Rattle.queues.specs.Table.{namesOf, pointersOf, entries, owners, pla
 use Rattle.queues.specs.Sound.{pointed, lengthIn, soundQ}
 
 -- ---- tests
-
-and-none : (a : Bool) → false ≡ (a && false)
-and-none true = refl
-and-none false = refl
 
 all-and : (p q : ℕ → Bool) (l : List ℕ) → all (λ x. p x && q x) l ≡ (all p l && all q l)
 all-and p q [] = refl

@@ -35,6 +35,10 @@ pub and-false-l : (a b : Bool) → (a && b) ≡ false → b ≡ true → a ≡ f
 and-false-l true b e f = sym f ∙ e
 and-false-l false b e f = refl
 
+pub and-none : (a : Bool) → false ≡ (a && false)
+and-none true = refl
+and-none false = refl
+
 pub or-l : (a b : Bool) → a ≡ true → (a || b) ≡ true
 or-l a b e = rw e
 

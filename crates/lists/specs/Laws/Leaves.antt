@@ -11,6 +11,7 @@ use borrow.Author.Tests.{le-leb, lt-leb}
 use Rattle.base.specs.Lists.{over}
 use Rattle.base.specs.Laws.Over.{take-over, drop-over, over-read}
 use Rattle.base.specs.Laws.Tests.{byTest}
+use Rattle.base.specs.Laws.Unique as unique
 use Rattle.model.specs.Lists as model
 use Rattle.monitor.specs.Step.{stepOn}
 use Rattle.monitor.specs.Table.{freshTables}
@@ -87,7 +88,7 @@ module _ {b : List ℕ} {x : model.Ran} (S : Leaves b x) where
 
 pub one-reply : (x : model.Ran) (r s : Ran) (o p : List ℕ) → ran r o ≡ x → ran s p ≡ x → (r ≡ s) × (o ≡ p)
 one-reply x r s o p e f =
-    let q : ran r o ≡ ran s p = e ∙ sym f in
+    let q : ran r o ≡ ran s p = unique.one-reply e f in
     (ap (λ (y : model.Ran). same y) q, ap (λ (y : model.Ran). y .buffer) q)
   where
     same : model.Ran → Ran

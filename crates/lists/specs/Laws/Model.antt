@@ -1,19 +1,23 @@
 -- The monitor's answers are the model's, so the run is the model's, and meets the demands on a list entry. Assumes nothing.
 use mathlib.Core.Path.{_≡_, refl, ap, subst, sym, _∙_}
-use mathlib.Core.Bool.{true}
+use mathlib.Core.Bool.{true, not}
 use mathlib.Core.List.{List, [], _∷_}
 use native.Mathlib.Nat.{mod-eq-of-lt}
 use Prim.Native.Nat.{ℕ, _*_, _^_, _<_}
-use lib.Dec.{leb}
+use native.Mathlib.Omega.{arith}
+use lib.Dec.{eqb, leb}
+use borrow.Author.Tests.{ne-eqb}
 use lib.ListN.{length}
 use Rattle.base.specs.Choice.{pick}
+use Rattle.base.specs.Lists.{all}
 use Rattle.base.specs.Bytes.{isBytes}
-use Rattle.base.specs.Laws.Tests.{and-l, and-r}
+use Rattle.base.specs.Laws.Tests.{and-l, and-r, and-i}
 use Rattle.model.specs.Limits.{cabinet}
 use Rattle.model.specs.State.{State, emptyAt}
-use Rattle.model.specs.Commands.{Answer, step}
+use Rattle.model.specs.Commands.{Answer, Turn, step}
 use Rattle.model.specs.Demands.{areBytes, ListDemands}
 use Rattle.model.specs.Lists.{Framed, bad, good, framed, Ran, refusal, answered, answersFrom, ran, run}
+use Rattle.model.specs.Laws.Conditions.{turn-is, fine-heard}
 use Rattle.model.specs.Laws.Entry.{value-fits, framed-bytes, entry-meets}
 use Rattle.interval.specs.Fresh.{freshAt}
 use Rattle.interval.specs.Stands.{Means}
@@ -66,3 +70,20 @@ run-meets = record {
   runs = λ l b v c rs h e f g. run-is l b h ∙ entry-meets cabinet .runs l b v c rs h e f g;
   moved = λ l m b v w rs hl hm el em f. run-is m b hm ∙ entry-meets cabinet .moved l m b v w rs hl hm el em f;
 }
+
+-- ---- "Through the list only 33 and 34 can arise."
+
+-- a record that is heard has a condition of 0..10
+not-32 : (s : State) (r : List ℕ) → step cabinet s r .answer .condition ≡ 32 → ⊥
+not-32 s r =
+    turn-is cabinet s r (λ (x : Turn). x .answer .condition ≡ 32 → ⊥)
+    (λ f a e. omega (arith, fine-heard cabinet s r f a .small)) (λ e. omega arith) (λ e. omega arith)
+
+never-from : (rs : List (List ℕ)) (s : State) → all (λ (a : Answer). not (eqb (a .condition) 32)) (answersFrom cabinet s rs) ≡ true
+unfolding answersFrom
+never-from [] s = refl
+never-from (r ∷ rs) s = and-i (ap not (ne-eqb (step cabinet s r .answer .condition) 32 (not-32 s r))) (never-from rs (step cabinet s r .state))
+
+-- of the answers that a run writes, no one has condition 32
+pub never-32 : (v : ℕ) (rs : List (List ℕ)) → v < 2 ^ 32 → areBytes rs ≡ true → all (λ (a : Answer). not (eqb (a .condition) 32)) (answersOn (freshTables v) rs) ≡ true
+never-32 v rs h b = ap (all (λ (a : Answer). not (eqb (a .condition) 32))) (answers-fresh v rs h b) ∙ never-from rs (emptyAt v)

@@ -21,16 +21,16 @@ least-requires c κs = search needs
 loop-holds : tie.Need-loop-holds Inv-loop μ-loop
 loop-holds c = record { here = omega arith; most = c .least .ensures; long = search (needs, unmapped); first = omega arith }
 
-mul-q : tie.Need-mul-q Inv-loop μ-loop
-mul-q c = search needs
+mul-if1 : tie.Need-mul-if1 Inv-loop μ-loop
+mul-if1 c = search needs
 
-element-copy-out-q : tie.Need-element-copy-out-q Inv-loop μ-loop
-element-copy-out-q c = search needs
+element-copy-out-if1 : tie.Need-element-copy-out-if1 Inv-loop μ-loop
+element-copy-out-if1 c = search needs
 
 returns : tie.Need-returns Inv-loop μ-loop
 returns c =
-    let l = c .before .before .before .before .loop in
-    let a = c .before .before .before .before .before .before .args in
+    let l = c .before .before .loop in
+    let a = c .before .before .before .before .args in
     seeks-hit (named (a .name)) (a .t1) _ (l .i) (l .inv) (omega arith) (eq-eqb _ _ (c .if1 .taken))
 
 add-i : tie.Need-add-i Inv-loop μ-loop
@@ -41,8 +41,8 @@ loop-less c = search needs
 
 loop-again : tie.Need-loop-again Inv-loop μ-loop
 loop-again c =
-    let l = c .before .before .before .before .loop in
-    let a = c .before .before .before .before .before .before .args in
+    let l = c .before .before .loop in
+    let a = c .before .before .before .before .args in
     seeks-on (named (a .name)) (a .t1) _ (l .i) (l .inv) (omega arith) (ne-eqb _ _ (c .if1 .left))
 
 returns-2 : tie.Need-returns-2 Inv-loop μ-loop
@@ -59,8 +59,8 @@ place-spec =
     μ-loop
     least-requires
     loop-holds
-    mul-q
-    element-copy-out-q
+    mul-if1
+    element-copy-out-if1
     returns
     add-i
     loop-less

@@ -1,17 +1,11 @@
 -- `requests::advance` meets its contract. Assumes nothing.
 use mathlib.Core.Path.{ap, _∙_}
-use mathlib.Core.List.{[]}
-use Rattle.model.specs.Plans.{Outcome}
-use Rattle.interval.specs.declared.Requests.{Requests}
-use Rattle.interval.specs.declared.advance.Advanced.{Advanced}
-use Rattle.interval.specs.Advance.{advanceOf, conditionOf, numberOf}
+use Rattle.interval.specs.Advance.{advanceOf}
 use Rattle.monitor.proofs.Asking.{told}
+use Rattle.interval.specs.Runs.{advancedOf}
 use borrow.Author.Needs.{needs}
 use Rattle.monitor.proofs.requests.advance.Statement.{statement}
 use Rattle.monitor.proofs.requests.advance.Tie as tie
-
-abbrev outcomeOf : Advanced → Outcome Requests
-outcomeOf r = record { condition = conditionOf (r .outcome); number = numberOf (r .outcome); bytes = []; state = r .requests }
 
 number4-at-requires : tie.Need-number4-at-requires
 number4-at-requires c κs = search needs
@@ -26,7 +20,7 @@ returns : tie.Need-returns
 returns c =
     let a = c .before .before in
     let n = a .before in
-    told outcomeOf (a .advance .ensures .0 ∙ ap (advanceOf (n .before .before .args .t)) (n .number4-at .ensures)) (c .passing .ensures)
+    told advancedOf (a .advance .ensures .0 ∙ ap (advanceOf (n .before .before .args .t)) (n .number4-at .ensures)) (c .passing .ensures)
 
 pub advance-spec : {M : Type 1} → statement M
 advance-spec = tie.close (tie.spec number4-at-requires advance-requires passing-requires returns)

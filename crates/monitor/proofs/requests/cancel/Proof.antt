@@ -1,17 +1,11 @@
 -- `requests::cancel` meets its contract. Assumes nothing.
 use mathlib.Core.Path.{ap, _∙_}
-use mathlib.Core.List.{[]}
-use Rattle.model.specs.Plans.{Outcome}
-use Rattle.interval.specs.declared.Requests.{Requests}
-use Rattle.interval.specs.declared.answers.Cancelled.{Cancelled}
-use Rattle.interval.specs.Cancel.{cancelIn, cancelGives}
+use Rattle.interval.specs.Cancel.{cancelIn}
 use Rattle.monitor.proofs.Asking.{told, plainly}
+use Rattle.interval.specs.Runs.{cancelledOf}
 use borrow.Author.Needs.{needs}
 use Rattle.monitor.proofs.requests.cancel.Statement.{statement}
 use Rattle.monitor.proofs.requests.cancel.Tie as tie
-
-abbrev outcomeOf : Cancelled → Outcome Requests
-outcomeOf r = record { condition = cancelGives (r .outcome); number = 0; bytes = []; state = r .requests }
 
 name-at-requires : tie.Need-name-at-requires
 name-at-requires c κs = search needs
@@ -29,7 +23,7 @@ returns : tie.Need-returns
 returns c =
     let d = c .before .before .before in
     let n = d .before in
-    told outcomeOf (d .cancel .ensures .0 ∙ ap (cancelIn (n .before .before .args .t)) (n .name-at .ensures))
+    told cancelledOf (d .cancel .ensures .0 ∙ ap (cancelIn (n .before .before .args .t)) (n .name-at .ensures))
     (plainly (c .before .cancel-code .ensures) (c .plain .ensures))
 
 pub cancel-spec : {M : Type 1} → statement M

@@ -1,7 +1,8 @@
 -- `requests::define_program` meets its contract. Assumes nothing.
 use mathlib.Core.Path.{ap, _∙_}
 use Rattle.interval.specs.Define.{defineProgram}
-use Rattle.monitor.proofs.Asking.{told, plainly, definedOf}
+use Rattle.interval.specs.Runs.{definedOf}
+use Rattle.monitor.proofs.Asking.{told, plainly}
 use borrow.Author.Needs.{needs}
 use Rattle.monitor.proofs.requests.define_program.Statement.{statement}
 use Rattle.monitor.proofs.requests.define_program.Tie as tie

@@ -1,7 +1,8 @@
 -- `requests::define_terminal` meets its contract. Assumes nothing.
 use mathlib.Core.Path.{ap, _∙_}
 use Rattle.interval.specs.Define.{defineTerminal}
-use Rattle.monitor.proofs.Asking.{told, plainly, definedOf}
+use Rattle.interval.specs.Runs.{definedOf}
+use Rattle.monitor.proofs.Asking.{told, plainly}
 use borrow.Author.Needs.{needs}
 use Rattle.monitor.proofs.requests.define_terminal.Statement.{statement}
 use Rattle.monitor.proofs.requests.define_terminal.Tie as tie

@@ -2,19 +2,14 @@
 use Prim.Native.Nat.{ℕ}
 use mathlib.Core.Path.{ap, ap₂, _∙_}
 use lib.ListN.{take}
-use Rattle.model.specs.Plans.{Outcome}
-use Rattle.interval.specs.declared.Requests.{Requests}
-use Rattle.interval.specs.declared.answers.Retrieved.{Retrieved}
 use Rattle.interval.specs.Retrieve.{retrieveIn, retrieveGives}
 use Rattle.monitor.specs.Answers.{saying}
 use Rattle.monitor.proofs.Asking.{told}
 use Rattle.monitor.proofs.Handed.{handed-small}
+use Rattle.interval.specs.Runs.{retrievedOf}
 use borrow.Author.Needs.{needs, length-unmapped}
 use Rattle.monitor.proofs.requests.retrieve.Statement.{statement}
 use Rattle.monitor.proofs.requests.retrieve.Tie as tie
-
-abbrev outcomeOf : Retrieved → Outcome Requests
-outcomeOf r = record { condition = retrieveGives (r .outcome); number = r .full; bytes = take (r .len) (r .bytes); state = r .requests }
 
 issuer-requires : tie.Need-issuer-requires
 issuer-requires c κs = search needs
@@ -46,7 +41,7 @@ returns c =
     let byte = room .before in
     let task = byte .before in
     let r = g .retrieve .result in
-    told outcomeOf
+    told retrievedOf
     (g .retrieve .ensures .0 ∙ ap₂ (retrieveIn (task .before .before .args .t)) (task .issuer .ensures) (room .wide .ensures ∙ byte .number1-at .ensures))
     (c .handing .ensures ∙ ap (λ (k : ℕ). saying k (r .full) (take (r .len) (r .bytes))) (c .before .retrieve-code .ensures))
 

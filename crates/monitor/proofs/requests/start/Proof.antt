@@ -1,17 +1,11 @@
 -- `requests::start` meets its contract. Assumes nothing.
 use mathlib.Core.Path.{ap, _∙_}
-use mathlib.Core.List.{[]}
-use Rattle.model.specs.Plans.{Outcome}
-use Rattle.interval.specs.declared.Requests.{Requests}
-use Rattle.interval.specs.declared.answers.Started.{Started}
-use Rattle.interval.specs.Start.{startIn, startGives}
+use Rattle.interval.specs.Start.{startIn}
 use Rattle.monitor.proofs.Asking.{told, plainly, read-alike}
+use Rattle.interval.specs.Runs.{startedOf}
 use borrow.Author.Needs.{needs}
 use Rattle.monitor.proofs.requests.start.Statement.{statement}
 use Rattle.monitor.proofs.requests.start.Tie as tie
-
-abbrev outcomeOf : Started → Outcome Requests
-outcomeOf r = record { condition = startGives (r .outcome); number = 0; bytes = []; state = r .requests }
 
 name-at-requires : tie.Need-name-at-requires
 name-at-requires c κs = search needs
@@ -45,7 +39,7 @@ returns c =
     let terminal = ticks .before in
     let program = terminal .before in
     let name = program .before in
-    told outcomeOf
+    told startedOf
     (d .start .ensures .0
     ∙ ap (startIn (name .before .before .args .t))
     (read-alike (name .name-at .ensures) (program .number4-at .ensures) (terminal .number4-at2 .ensures)

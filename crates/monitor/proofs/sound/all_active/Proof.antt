@@ -12,13 +12,10 @@ use Rattle.handlers.specs.declared.Task.{Task}
 use Rattle.handlers.specs.declared.Tasks.{Tasks}
 use Rattle.handlers.specs.declared.answers.Names.{Names}
 use Rattle.handlers.specs.Names.{namesIn}
+use Rattle.handlers.proofs.Typed.{unmapped}
 use borrow.Author.Needs.{needs}
 use Rattle.monitor.proofs.sound.all_active.Statement.{statement}
 use Rattle.monitor.proofs.sound.all_active.Tie as tie
-
--- the length of the rows, from what their type says of a column of them
-unmapped : {Y : Type 0} (f : Task → Y) (l : List Task) (n : ℕ) → length (map f l) ≡ n → length l ≡ n
-unmapped f l n e = sym (length-map l f) ∙ e
 
 -- 16 rows have room for no more names
 few : (t : Tasks) (n : Names) → length (t .rows) ≡ 16 → n ≡ namesIn t → n .count ≤ 16
