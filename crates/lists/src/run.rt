@@ -7,13 +7,26 @@ ghost use Rattle.model.specs.Limits.{cabinet};
 ghost use Rattle.monitor.specs.Table.{freshTables};
 ghost use Rattle.frames.specs.Reading.{recordsFrom};
 ghost use Rattle.lists.specs.Run.{answersOn, runOn, ran, Fitting, reply};
+use crate::fresh::fresh_requests;
+use crate::fresh::fresh_tasks;
 use frames::framing::Framing;
 use frames::framing::frame;
 use frames::reading::Part;
 use frames::reading::part_at;
 use frames::writing::write_answer;
-use monitor::fresh::fresh_parts;
-use monitor::step::step_on;
+use handlers::Setting;
+use handlers::decide::decide;
+use handlers::forget::forget;
+use interval::active::is_active;
+use interval::remove::remove;
+use monitor::answers::answered;
+use monitor::answers::plain;
+use monitor::lanes::Lane;
+use monitor::lanes::decides;
+use monitor::lanes::judge;
+use monitor::lanes::lane_of;
+use monitor::lanes::word_of;
+use monitor::settle::SYSTEM;
 
 // "The list entry returns 0, 35 or 36 and the number of bytes written."
 pub struct Ran {
@@ -50,13 +63,55 @@ fn run_records(list: &[u8], out: &mut [u8], register: u32) -> usize
     requires { ⌜ Fitting (now list) (now out) ⌝ }
     ensures { λ r. ⌜ reply 0 r (now (out .exit)) ≡ answered (answersOn (freshTables register) (recordsFrom (now (list .entry)) 9)) (now (out .entry)) ⌝ }
 {
-    let mut parts = fresh_parts(register);
+    let mut requests = fresh_requests(register);
+    let mut queues = queues::fresh::fresh();
+    let mut tasks = fresh_tasks(register);
     let mut items = [0u8; 8192];
     let mut at: usize = 9;
     let mut written: usize = 0;
     while let Part::Record { start, next } = part_at(list, at) {
-        let turned = step_on(parts, &mut items, &list[start..next]);
-        let a = turned.answer;
+        let rec = &list[start..next];
+        let issuer = records::issuer(rec);
+        let mut may = true;
+        if issuer != SYSTEM {
+            may = is_active(requests, issuer);
+        }
+        let lane = lane_of(rec, issuer, may);
+        let mut said = word_of(lane);
+        match lane {
+            Lane::Ticks => {
+                said = plain(0, requests.register);
+            }
+            Lane::Requests => {
+                let a = monitor::requests::ask(requests, records::command(rec), rec);
+                said = a.said;
+                requests = a.requests;
+            }
+            Lane::Store => {
+                let s = monitor::store::ask(queues, &mut items, records::command(rec), rec);
+                said = s.said;
+                queues = s.queues;
+            }
+            Lane::Settings => {
+                let m = monitor::settings::ask(tasks, records::command(rec), rec);
+                said = m.said;
+                tasks = m.tasks;
+            }
+            Lane::Malformed => {}
+            Lane::Stranger => {}
+            Lane::Wrong => {}
+            Lane::Finish => {}
+        }
+        let mut by = Setting::Ignore;
+        if decides(lane, said.condition, issuer) {
+            by = decide(tasks, issuer, said.condition);
+        }
+        let v = judge(lane, by);
+        if v.ends {
+            requests = remove(requests, issuer);
+            tasks = forget(tasks, issuer);
+        }
+        let a = answered(said, v.action, v.label);
         let bytes = a.bytes;
         let n = write_answer(
             &mut out[written..],
@@ -68,7 +123,6 @@ fn run_records(list: &[u8], out: &mut [u8], register: u32) -> usize
             a.len,
         );
         written = written + n;
-        parts = turned.parts;
         at = next;
     }
     written

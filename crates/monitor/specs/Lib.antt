@@ -4,6 +4,7 @@ pub mod Store
 pub mod Settings
 pub mod Table
 pub mod Step
+pub mod Lanes
 pub mod Laws
 pub mod Monitor
 pub mod Examples

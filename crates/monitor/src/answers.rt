@@ -24,8 +24,8 @@ pub struct Said {
 }
 
 // A condition and a number, and no bytes.
-pub(crate) fn plain(condition: u8, number: u32) -> Said
-    ensures { λ r. ⌜ r ≡ saying condition number [] ⌝ }
+pub fn plain(condition: u8, number: u32) -> Said
+    ensures exact { λ r. ⌜ r ≡ saying condition number [] ⌝ }
 {
     Said {
         condition,
@@ -50,8 +50,8 @@ pub(crate) fn carrying(condition: u8, number: u32, from: &[u8]) -> Said
 }
 
 // "The action alters neither number nor bytes."
-pub(crate) fn answered(s: Said, action: u8, label: u16) -> Answer
-    ensures { λ r. ⌜ r ≡ answering s action label ⌝ }
+pub fn answered(s: Said, action: u8, label: u16) -> Answer
+    ensures exact { λ r. ⌜ r ≡ answering s action label ⌝ }
 {
     let bytes = s.bytes;
     Answer {

@@ -17,6 +17,7 @@ pub struct Tables {
 
 pub mod answers;
 pub mod fresh;
+pub mod lanes;
 pub mod obey;
 pub mod requests;
 pub mod settings;

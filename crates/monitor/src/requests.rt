@@ -251,8 +251,8 @@ fn retrieve(t: Requests, rec: &[u8]) -> Asked
 }
 
 // The command of that number; another is not asked here, and the last stands for it.
-pub(crate) fn ask(t: Requests, command: u8, rec: &[u8]) -> Asked
-    ensures { λ r. ⌜ r ≡ asks (runs.turn t (askOf command (now (rec .entry)))) ⌝ }
+pub fn ask(t: Requests, command: u8, rec: &[u8]) -> Asked
+    ensures exact { λ r. ⌜ r ≡ asks (runs.turn t (askOf command (now (rec .entry)))) ⌝ }
 {
     match command {
         1 => define_program(t, rec),

@@ -36,8 +36,8 @@ fn set(h: Handled) -> Made
 }
 
 // 15 handle: condition 1, label 2; 16 ignore: condition 1; 17 reset: condition 1. Another is not asked here, and the last stands for it.
-pub(crate) fn ask(t: Tasks, command: u8, rec: &[u8]) -> Made
-    ensures { λ r. ⌜ r ≡ sets (settingTurn t command (now (rec .entry))) ⌝ }
+pub fn ask(t: Tasks, command: u8, rec: &[u8]) -> Made
+    ensures exact { λ r. ⌜ r ≡ sets (settingTurn t command (now (rec .entry))) ⌝ }
 {
     let task = records::issuer(rec);
     let condition = records::number1_at(rec, 9);

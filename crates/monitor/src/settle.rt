@@ -13,7 +13,7 @@ use crate::obey::without;
 use handlers::Setting;
 
 // "A blank issuer is the system".
-pub(crate) const SYSTEM: u64 = 0x2020202020202020;
+pub const SYSTEM: u64 = 0x2020202020202020;
 
 // The parts after the record, and its answer.
 pub struct Turned {

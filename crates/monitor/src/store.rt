@@ -171,8 +171,8 @@ fn delete(q: Queues, rec: &[u8]) -> Stored
 }
 
 // The command of that number; another is not asked here, and the last stands for it.
-pub(crate) fn ask(q: Queues, items: &mut [u8; 8192], command: u8, rec: &[u8]) -> Stored
-    ensures { λ r. ⌜ lent r (now (items .exit)) ≡ stores (turn (store q (now (items .entry))) (storeAsk command (now (rec .entry)))) ⌝ }
+pub fn ask(q: Queues, items: &mut [u8; 8192], command: u8, rec: &[u8]) -> Stored
+    ensures exact { λ r. ⌜ lent r (now (items .exit)) ≡ stores (turn (store q (now (items .entry))) (storeAsk command (now (rec .entry)))) ⌝ }
 {
     match command {
         10 => append(q, items, rec),
