@@ -6,7 +6,7 @@
  *
  * It allocates nothing, keeps nothing between calls and has no global data: each call runs its list from fresh, empty tables.
  * Any number of threads may call it at once, each with a buffer and a count of its own. It takes no lock, makes no system call
- * and always returns. It needs less than 96 KiB of stack (docs/SPEED.md has the measure).
+ * and always returns. It needs less than 64 KiB of stack (measured, not proved: docs/SPEED.md).
  */
 #ifndef ALDWOMP_H
 #define ALDWOMP_H

@@ -2,11 +2,13 @@
 ghost use mathlib.Core.Path.{_≡_};
 ghost use mathlib.Core.List.{List};
 ghost use Prim.Native.Nat.{ℕ};
-ghost use Rattle.model.specs.Lists.{framed, refusal, answered, run};
+ghost use Rattle.model.specs.Lists.{framed, refusal, answered, encoded, run};
 ghost use Rattle.model.specs.Limits.{cabinet};
 ghost use Rattle.monitor.specs.Table.{freshTables};
 ghost use Rattle.frames.specs.Reading.{recordsFrom};
+ghost use Rattle.frames.specs.Writing.{written, writtenOver};
 ghost use Rattle.lists.specs.Run.{answersOn, runOn, ran, Fitting, reply};
+ghost use Rattle.lists.specs.Laws.Answers.{held};
 use crate::fresh::fresh_requests;
 use crate::fresh::fresh_tasks;
 use frames::framing::Framing;
@@ -19,6 +21,7 @@ use handlers::decide::decide;
 use handlers::forget::forget;
 use interval::active::is_active;
 use interval::remove::remove;
+use monitor::answers::Answer;
 use monitor::answers::answered;
 use monitor::answers::plain;
 use monitor::lanes::Lane;
@@ -57,8 +60,17 @@ fn refused(code: u32) -> Ran
     Ran { code, written: 0 }
 }
 
+// An answer at the front of a buffer: how many bytes it took.
+fn write(out: &mut [u8], a: Answer) -> usize
+    ensures { λ r. ⌜ written r (now (out .exit)) ≡ writtenOver (encoded (held a)) (now (out .entry)) ⌝ }
+{
+    let bytes = a.bytes;
+    write_answer(out, a.condition, a.action, a.label, a.number, &bytes, a.len)
+}
+
 // The records of a framed list, where the buffer has 74 bytes for each: how many bytes their answers took.
-// "Each answer goes into the lent buffer behind the one before it."
+// "Each answer goes into the lent buffer behind the one before it." The parts stand here by themselves and a record is handed to the one that
+// it is for: a call copies each struct that it takes and gives.
 fn run_records(list: &[u8], out: &mut [u8], register: u32) -> usize
     requires { ⌜ Fitting (now list) (now out) ⌝ }
     ensures { λ r. ⌜ reply 0 r (now (out .exit)) ≡ answered (answersOn (freshTables register) (recordsFrom (now (list .entry)) 9)) (now (out .entry)) ⌝ }
@@ -112,16 +124,7 @@ fn run_records(list: &[u8], out: &mut [u8], register: u32) -> usize
             tasks = forget(tasks, issuer);
         }
         let a = answered(said, v.action, v.label);
-        let bytes = a.bytes;
-        let n = write_answer(
-            &mut out[written..],
-            a.condition,
-            a.action,
-            a.label,
-            a.number,
-            &bytes,
-            a.len,
-        );
+        let n = write(&mut out[written..], a);
         written = written + n;
         at = next;
     }

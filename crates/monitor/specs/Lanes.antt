@@ -1,6 +1,6 @@
 -- One record by lanes: the part of the tables that it is for is asked, and no other; then the handlers. Laws/Lanes.antt shows that this is `stepOn`.
 use Prim.Native.Nat.{ℕ}
-use mathlib.Core.Bool.{Bool, true, false, _||_, _&&_, not}
+use mathlib.Core.Bool.{Bool, true, false}
 use mathlib.Core.List.{List}
 use lib.Dec.{eqb, leb}
 use Rattle.base.specs.Choice.{pick}

@@ -10,7 +10,6 @@ use Rattle.base.specs.Bytes.{blank}
 use Rattle.base.specs.Laws.Tests.{byTest}
 use Rattle.model.specs.Plans.{normal, Outcome, fault, done}
 use Rattle.model.specs.Commands.{command, issuer, wrongKind, rowOf, formed}
-use Rattle.model.specs.Demands.{Stepped}
 use Rattle.handlers.specs.Decide.{decideIn}
 use Rattle.handlers.specs.declared.Setting.{Setting}
 use Rattle.handlers.specs.declared.Setting.the-variants.{Unset, Ignore, Label}

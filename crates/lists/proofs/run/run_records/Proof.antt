@@ -11,7 +11,8 @@ use denote.Enum.Declared.{tagOf}
 use borrow.Author.Needs.{needs}
 use Rattle.model.specs.Lists.{answered}
 use Rattle.monitor.specs.Lanes.{laned}
-use Rattle.monitor.specs.Laws.Held.{Held, held, heldOf, heldSetting, heldTurned, heldEnd, parts, of-ticks, of-requests, of-store, of-settings, of-malformed, of-stranger, of-wrong, of-finish, decided, undecided, ended, went-on, held-step}
+use Rattle.monitor.specs.Laws.Held.{Held, held, heldOf, heldSetting, heldTurned, heldEnd, parts, decided, undecided, ended, went-on, held-step}
+use Rattle.monitor.specs.Laws.Held.{of-ticks, of-requests, of-store, of-settings, of-malformed, of-stranger, of-wrong, of-finish}
 use Rattle.monitor.specs.Step.{allowedIn, stepOn, lent, turned}
 use Rattle.monitor.specs.Table.{noItems, tables}
 use Rattle.monitor.specs.declared.Parts.{Parts}
@@ -134,7 +135,8 @@ stepped c =
     ending c
     ∙ held-step (before (start-of c)) (record-of (start-of c)) (i .issuer .result) (m .before .before .before .if1 .may) (m .before .before .lane-of .result)
     (kept m) (c .before .before .before .if2 .by) (c .before .before .judge .result)
-    (i .issuer .ensures) (may (m .before .before .before)) (m .before .before .lane-of .ensures) (asked m) (by-setting (c .before .before .before)) (c .before .before .judge .ensures)
+    (i .issuer .ensures) (may (m .before .before .before)) (m .before .before .lane-of .ensures) (asked m)
+    (by-setting (c .before .before .before)) (c .before .before .judge .ensures)
 
 -- the type's own fact of the answer's bytes, which is all that is known of how many it has
 long : (c : tie.After-answered Inv-loop μ-loop) → length (c .answered .result .bytes) ≡ 64
@@ -247,47 +249,44 @@ forget-requires c κs = search needs
 answered-requires : tie.Need-answered-requires Inv-loop μ-loop
 answered-requires c κs = search needs
 
-sub-write-answer : tie.Need-sub-write-answer Inv-loop μ-loop
-sub-write-answer c = let R = start-of (c .before) .before .before .before .loop .inv in let n = running-long R in let m = R .room in omega arith
+sub-write : tie.Need-sub-write Inv-loop μ-loop
+sub-write c = let R = start-of c .before .before .before .loop .inv in let n = running-long R in let m = R .room in omega arith
 
-part-write-answer-start : tie.Need-part-write-answer-start Inv-loop μ-loop
-part-write-answer-start c = let R = start-of (c .before) .before .before .before .loop .inv in let n = running-long R in let m = R .room in omega arith
+part-write-start : tie.Need-part-write-start Inv-loop μ-loop
+part-write-start c = let R = start-of c .before .before .before .loop .inv in let n = running-long R in let m = R .room in omega arith
 
-part-write-answer-end : tie.Need-part-write-answer-end Inv-loop μ-loop
-part-write-answer-end c = search needs
+part-write-end : tie.Need-part-write-end Inv-loop μ-loop
+part-write-end c = search needs
 
-slice-aggregate-write-answer : tie.Need-slice-aggregate-write-answer Inv-loop μ-loop
-slice-aggregate-write-answer c = sym (long (c .before .before .before))
-
-write-answer-requires : tie.Need-write-answer-requires Inv-loop μ-loop
-write-answer-requires c κs = search needs
+write-requires : tie.Need-write-requires Inv-loop μ-loop
+write-requires c κs = search needs
 
 add-written : tie.Need-add-written Inv-loop μ-loop
 add-written c =
     let wrote = c .before .before in
-    let step = wrote .before .before .before .before in
+    let step = wrote .before .before in
     let start = start-of step in
     let R = start .before .before .before .loop .inv in
     let m =
     running-moved R _ _ (said start) (reply step) _ (stepped step) (long step)
-    (wrote .write-answer .result) (wrote .write-answer .last .0) (wrote .write-answer .ensures) in
+    (wrote .write .result) (wrote .write .last .0) (wrote .write .ensures) in
     let n = running-long R in
     let lent = start .before .before .before .before .before .before .before .before .before .good .1 .0 .0 in
     omega arith
 
 loop-less : tie.Need-loop-less Inv-loop μ-loop
 loop-less c =
-    let step = c .before .before .before .before .before .before in
+    let step = c .before .before .before .before in
     let a = ahead (start-of step) in
     omega arith
 
 loop-again : tie.Need-loop-again Inv-loop μ-loop
 loop-again c =
     let wrote = c .before .before in
-    let step = wrote .before .before .before .before in
+    let step = wrote .before .before in
     let start = start-of step in
     running-more (start .before .before .before .loop .inv) _ _ (said start) (reply step) _ (stepped step) (long step)
-    (wrote .write-answer .result) (wrote .write-answer .last .0) (wrote .write-answer .ensures)
+    (wrote .write .result) (wrote .write .last .0) (wrote .write .ensures)
 
 same-length : tie.Need-same-length Inv-loop μ-loop
 same-length c = running-long (c .before .before .loop .inv)
@@ -344,11 +343,10 @@ run-records-spec =
     remove-requires
     forget-requires
     answered-requires
-    sub-write-answer
-    part-write-answer-start
-    part-write-answer-end
-    slice-aggregate-write-answer
-    write-answer-requires
+    sub-write
+    part-write-start
+    part-write-end
+    write-requires
     add-written
     loop-less
     loop-again

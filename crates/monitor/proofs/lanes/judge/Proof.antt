@@ -1,8 +1,6 @@
 -- `lanes::judge` meets its contract: each arm knows the setting. Assumes nothing.
-use mathlib.Core.Path.{_≡_, sym, ap, _∙_}
-use mathlib.Core.Bool.{Bool}
+use mathlib.Core.Path.{sym, ap, _∙_}
 use borrow.Author.Needs.{needs}
-use Rattle.monitor.specs.declared.lanes.Verdict.{Verdict}
 use Rattle.monitor.specs.Lanes.{verdict, verdictOf}
 use Rattle.monitor.proofs.lanes.judge.Statement.{statement}
 use Rattle.monitor.proofs.lanes.judge.Tie as tie

@@ -1,7 +1,5 @@
 -- `lanes::lane_of` meets its contract. Assumes nothing.
 use mathlib.Core.Path.{_≡_, sym, ap, _∙_}
-use mathlib.Core.Bool.{Bool, true, false}
-use mathlib.Core.List.{List}
 use Prim.Native.Nat.{ℕ}
 use borrow.Author.Needs.{needs}
 use borrow.Author.Tests.{not-true, not-false}
@@ -43,7 +41,8 @@ returns-3 c =
     let w = c .before in
     let e = w .before .before in
     let f = e .before .before in
-    rw (sym (f .formed .ensures) ∙ not-false (f .formed .result) (e .before .if1 .left), not-false (f .before .before .args .may) (e .if2 .left), kind w ∙ c .if3 .taken)
+    rw
+    (sym (f .formed .ensures) ∙ not-false (f .formed .result) (e .before .if1 .left), not-false (f .before .before .args .may) (e .if2 .left), kind w ∙ c .if3 .taken)
 
 command-lane-requires : tie.Need-command-lane-requires
 command-lane-requires c κs = search needs
@@ -54,7 +53,8 @@ returns-4 c =
     let w = c .before .before in
     let e = w .before .before in
     let f = e .before .before in
-    rw (sym (f .formed .ensures) ∙ not-false (f .formed .result) (e .before .if1 .left), not-false (f .before .before .args .may) (e .if2 .left), kind w ∙ c .before .if3 .left)
+    rw
+    (sym (f .formed .ensures) ∙ not-false (f .formed .result) (e .before .if1 .left), not-false (f .before .before .args .may) (e .if2 .left), kind w ∙ c .before .if3 .left)
     (c .command-lane .ensures ∙ ap commandLane (w .before .command .ensures))
 
 pub lane-of-spec : {M : Type 1} → statement M
