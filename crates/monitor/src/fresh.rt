@@ -6,7 +6,7 @@ ghost use Prim.Native.Nat.{ℕ};
 use crate::Parts;
 use crate::Tables;
 
-// Without the bytes of the items, which a run keeps beside them.
+// Without the bytes of the items, for whoever keeps these beside the parts.
 pub fn fresh_parts(register: u32) -> Parts
     ensures exact { λ r. ⌜ r ≡ freshParts register ⌝ }
     ensures model { λ r. ⌜ ((b : List ℕ) → Fresh register (tables r b)) ⌝ }

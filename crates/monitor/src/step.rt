@@ -30,7 +30,7 @@ fn allowed(p: Parts, rec: &[u8]) -> bool
     interval::active::is_active(p.requests, issuer)
 }
 
-// From tables that are sound, which a run keeps; the bytes of the items are lent.
+// Without the test of soundness, for whoever knows that the tables are sound; the bytes of the items are lent.
 pub fn step_on(p: Parts, items: &mut [u8; 8192], rec: &[u8]) -> Turned
     ensures exact { λ r. ⌜ lent r (now (items .exit)) ≡ turned (stepOn (tables p (now (items .entry))) (now (rec .entry))) ⌝ }
 {
