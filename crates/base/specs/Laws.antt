@@ -9,6 +9,8 @@ pub mod Over
 pub mod Scans
 pub mod Gather
 pub mod Cut
+pub mod Seeking
+pub mod Removing
 pub mod Index
 pub mod Told
 pub mod Unique

@@ -7,19 +7,18 @@ use native.Mathlib.Omega.{arith}
 use lib.Dec.{eqb, ltb}
 use lib.ListN.{length, set, length-take, length-append}
 use borrow.Author.Tests.{lt-ltb, le-ltb, ltb-true, ltb-false, eq-eqb, ne-eqb}
-use Rattle.base.specs.Lists.{over, cutAt}
+use Rattle.base.specs.Lists.{any, over, cutAt}
 use Rattle.base.specs.Laws.Tests.{byTest, or-r}
-use Rattle.base.specs.Laws.Keep.{firstAt-le, firstAt-any}
+use Rattle.base.specs.Laws.Keep.{firstAt-le}
 use Rattle.base.specs.Laws.Over.{over-self, over-set}
 use Rattle.handlers.specs.declared.Setting.{Setting}
 use Rattle.handlers.specs.declared.Setting.the-variants.{Label}
 use Rattle.handlers.specs.declared.Task.{Task}
 use Rattle.handlers.specs.declared.Tasks.{Tasks}
-use Rattle.handlers.specs.declared.rows.Found.{Found}
 use Rattle.handlers.specs.declared.answers.Outcome.the-variants.{Done, Invalid}
 use Rattle.handlers.specs.declared.answers.Handled.{Handled}
 use Rattle.handlers.specs.Table.{live, withLive}
-use Rattle.handlers.specs.Rows.{named, placeIn, taskIn, foundIn, withSetting}
+use Rattle.handlers.specs.Rows.{named, placeIn, taskIn, withSetting}
 use Rattle.handlers.specs.Set.{putIn, setIn, setTo, handleIn}
 use Rattle.handlers.specs.Forget.{forgetIn}
 use Rattle.handlers.proofs.Typed.{tabled}
@@ -53,15 +52,15 @@ module _ (t : Tasks) (n c : ℕ) (x : Setting) (h : length (t .rows) ≡ 16) whe
   full : (i : ℕ) (v : Task) → 16 ≤ i → t ≡ putIn t i v
   full i v g = rw (le-ltb i (length (live t)) (omega (arith, length-take (t .count) (t .rows))), le-ltb i 16 g)
 
-  module _ (f : Found) (e : f ≡ foundIn t n) (s : c ≤ 10) where
-    pub set-written : (k w : ℕ) → w ≡ c → f .at < 16 → k ≡ max (t .count) (f .at + 1)
-        → handled (written k (f .at) (withSetting w x (f .task))) ≡ setTo (ltb 10 c) t n c x
+  module _ (i : ℕ) (e : i ≡ placeIn t n) (s : c ≤ 10) where
+    pub set-written : (v : Task) (k w : ℕ) → v ≡ taskIn t n → w ≡ c → i < 16 → k ≡ max (t .count) (i + 1)
+        → handled (written k i (withSetting w x v)) ≡ setTo (ltb 10 c) t n c x
     unfolding setIn
-    set-written k w g b m =
-        rw (le-ltb 10 c s, m, g, e)
+    set-written v k w f g b m =
+        rw (le-ltb 10 c s, m, g, e, f)
         (ap handled (put (placeIn t n) (withSetting c x (taskIn t n)) (firstAt-le (named n) (live t)) (rw e at b)))
 
-    pub set-full : 16 ≤ f .at → handled t ≡ setTo (ltb 10 c) t n c x
+    pub set-full : 16 ≤ i → handled t ≡ setTo (ltb 10 c) t n c x
     unfolding setIn
     set-full b = rw (le-ltb 10 c s) (ap handled (full (placeIn t n) (withSetting c x (taskIn t n)) (rw e at b)))
 
@@ -83,13 +82,11 @@ module _ (t : Tasks) (n c : ℕ) where
 
 -- ---- forget
 
-module _ (t : Tasks) (n i : ℕ) (e : i ≡ placeIn t n) where
-  pub forget-cut : i < length (live t) → withLive t (cutAt i (live t)) ≡ forgetIn t n
+module _ (t : Tasks) (n : ℕ) where
+  pub forget-cut : any (named n) (live t) ≡ true → withLive t (cutAt (placeIn t n) (live t)) ≡ forgetIn t n
   unfolding forgetIn
-  forget-cut h =
-      rw (firstAt-any (named n) (live t), lt-ltb (placeIn t n) (length (live t)) (omega arith))
-      (ap (λ (k : ℕ). withLive t (cutAt k (live t))) e)
+  forget-cut h = rw h
 
-  pub forget-none : length (live t) ≤ i → t ≡ forgetIn t n
+  pub forget-none : any (named n) (live t) ≡ false → t ≡ forgetIn t n
   unfolding forgetIn
-  forget-none h = rw (firstAt-any (named n) (live t), le-ltb (placeIn t n) (length (live t)) (omega arith))
+  forget-none h = rw h

@@ -1,9 +1,6 @@
-// The rows: one with nothing set, where a name stands, and a row less.
+// The rows: one with nothing set, and where a name stands.
 ghost use mathlib.Core.Path.{_≡_};
-ghost use Prim.Native.Nat.{_<_, min};
-ghost use lib.ListN.{length};
-ghost use Rattle.base.specs.Lists.{cutAt};
-ghost use Rattle.handlers.specs.Table.{live, withLive};
+ghost use Prim.Native.Nat.{min};
 ghost use Rattle.handlers.specs.Rows.{unsetRow, foundIn};
 use crate::Cell;
 use crate::Setting;
@@ -50,21 +47,4 @@ pub(crate) fn find(t: Tasks, name: u64) -> Found
     }
     let none = unset_row(name);
     Found { at: i, task: none }
-}
-
-// The row at i goes, and those behind it move down.
-pub(crate) fn close(t: Tasks, i: usize) -> Tasks
-    requires { ⌜ i < length (live t) ⌝ }
-    ensures { λ r. ⌜ r ≡ withLive t (cutAt i (live t)) ⌝ }
-{
-    let last = least(t.count, 16) - 1;
-    let mut u = t;
-    let mut k = i;
-    while k < last {
-        let v = u.rows[k + 1];
-        u.rows[k] = v;
-        k += 1;
-    }
-    u.count = last;
-    u
 }

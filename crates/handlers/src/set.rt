@@ -30,7 +30,7 @@ fn most(a: usize, b: usize) -> usize
 
 // All three. A task that has no row gets one behind the others. Where it has none and 16 are in use nothing changes: this does not arise, since a
 // row is an active task's and at most 16 tasks are active, as each has a program of its own.
-fn set_to(t: Tasks, name: u64, condition: u8, setting: Setting) -> Handled
+fn set_to(mut t: Tasks, name: u64, condition: u8, setting: Setting) -> Handled
     ensures { λ r. ⌜ r ≡ setTo (ltb 10 condition) t name condition setting ⌝ }
 {
     if condition > LAST {
@@ -39,18 +39,26 @@ fn set_to(t: Tasks, name: u64, condition: u8, setting: Setting) -> Handled
             outcome: Outcome::Invalid,
         };
     }
-    let f = rows::find(t, name);
-    let i = f.at;
-    let mut u = t;
+    let m = rows::least(t.count, 16);
+    let mut i: usize = 0;
+    while i < m {
+        if t.rows[i].name == name {
+            break;
+        }
+        i += 1;
+    }
     if i < 16 {
         let c = wide(condition);
-        let mut v = f.task;
+        let mut v = rows::unset_row(name);
+        if i < m {
+            v = t.rows[i];
+        }
         v.cells[c] = Cell { setting };
-        u.rows[i] = v;
-        u.count = most(t.count, i + 1);
+        t.rows[i] = v;
+        t.count = most(t.count, i + 1);
     }
     Handled {
-        tasks: u,
+        tasks: t,
         outcome: Outcome::Done,
     }
 }

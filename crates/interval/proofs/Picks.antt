@@ -11,10 +11,9 @@ use Rattle.base.specs.Laws.Scans.{read-cons, read-end}
 use Rattle.interval.specs.declared.Request.{Request}
 use Rattle.interval.specs.declared.Requests.{Requests}
 use Rattle.interval.specs.declared.dispatch.Busy.{Busy}
-use Rattle.interval.specs.declared.dispatch.Picked.the-variants as picked
 use Rattle.interval.specs.Table.{live}
 use Rattle.interval.specs.Rows.{expired, active, outRow}
-use Rattle.interval.specs.Dispatch.{Runs, freeOf, free, ready, passedBy, pickIn}
+use Rattle.interval.specs.Dispatch.{Runs, freeOf, free, ready, passedBy, At, None, pickIn}
 use Rattle.interval.proofs.Seeks.{Sought, counted, within, past, seeks-on, seeks-hit, seeks-some, seeks-none}
 
 -- ---- one row
@@ -87,14 +86,14 @@ module _ (t : Requests) (m i k : ℕ) (v : Passed t m i k) (h : i < m) where
         few = omega arith;
       }
 
-  pub picks : expired (getD (t .rows) i outRow) ≡ true → free (live t) (getD (t .rows) i outRow) ≡ true → picked.At i k ≡ pickIn (live t)
+  pub picks : expired (getD (t .rows) i outRow) ≡ true → free (live t) (getD (t .rows) i outRow) ≡ true → At i k ≡ pickIn (live t)
   unfolding pickIn
   picks a b =
       let r = is-ready (live t) (getD (t .rows) i outRow) a b in
       let e : firstAt (ready (live t)) (live t) ≡ i = sym (seeks-hit (ready (live t)) t m i (v .sought) h r) in
       rw (seeks-some (ready (live t)) t m i (v .sought) h r, e, v .line)
 
-pub picks-none : (t : Requests) (m i k : ℕ) → Passed t m i k → m ≤ i → picked.Nothing k ≡ pickIn (live t)
+pub picks-none : (t : Requests) (m i k : ℕ) → Passed t m i k → m ≤ i → None k ≡ pickIn (live t)
 unfolding pickIn
 picks-none t m i k v h =
     rw (seeks-none (ready (live t)) t m i (v .sought) h, v .line, read-end (t .rows) (t .count) i (past (ready (live t)) t m i (v .sought) h))

@@ -1,13 +1,10 @@
--- A scan of the rows for the first that passes a test, one row a turn. Assumes nothing.
+-- A scan of the rows for the first that passes a test, one row a turn: base's `Seeking`, of the struct's rows. Assumes nothing.
 use Prim.Native.Nat.{ℕ, _+_, _<_, _≤_, min}
-use mathlib.Core.Path.{_≡_, _∙_}
+use mathlib.Core.Path.{_≡_}
 use mathlib.Core.Bool.{Bool, true, false}
-use native.Mathlib.Omega.{arith}
-use lib.ListN.{length, drop, getD, length-take}
-use borrow.Author.Tests.{lt-ltb, le-ltb}
+use lib.ListN.{length, getD}
 use Rattle.base.specs.Lists.{any, firstAt}
-use Rattle.base.specs.Laws.Scans.{firstAt-hit, firstAt-miss, firstAt-end}
-use Rattle.base.specs.Laws.Keep.{firstAt-any}
+use Rattle.base.specs.Laws.Seeking as seeking
 use Rattle.interval.specs.declared.Request.{Request}
 use Rattle.interval.specs.declared.Requests.{Requests}
 use Rattle.interval.specs.Table.{live}
@@ -15,50 +12,31 @@ use Rattle.interval.specs.Rows.{outRow}
 
 module _ (p : Request → Bool) (t : Requests) (m : ℕ) where
   -- none of the rows before i passes
-  pub record Sought (i : ℕ) : Type 0 where
-    pub here : i ≤ m
-    pub most : m ≡ min (t .count) 32
-    pub long : length (t .rows) ≡ 32
-    pub first : firstAt p (live t) ≡ i + firstAt p (drop i (live t))
+  abbrev pub Sought : ℕ → Type 0
+  Sought i = seeking.Sought p (t .rows) (t .count) 32 m i
 
   module _ (i : ℕ) (v : Sought i) where
     module _ (h : i < m) where
       pub counted : i < t .count
-      counted = let z = v .most in omega arith
+      counted = seeking.counted v h
 
       pub within : i < length (t .rows)
-      within = let z = v .most in let l = v .long in omega arith
+      within = seeking.within v h
 
       pub seeks-hit : p (getD (t .rows) i outRow) ≡ true → i ≡ firstAt p (live t)
-      seeks-hit e =
-          let z = firstAt-hit (t .rows) (t .count) i p outRow counted within e in
-          let f = v .first in
-          omega arith
+      seeks-hit e = seeking.seeks-hit v h outRow e
 
       pub seeks-on : p (getD (t .rows) i outRow) ≡ false → Sought (i + 1)
-      seeks-on e =
-          let z = firstAt-miss (t .rows) (t .count) i p outRow counted within e in
-          let f = v .first in
-          record { here = omega arith; most = v .most; long = v .long; first = omega arith }
+      seeks-on e = seeking.seeks-on v h outRow e
 
       pub seeks-some : p (getD (t .rows) i outRow) ≡ true → any p (live t) ≡ true
-      seeks-some e =
-          let f = seeks-hit e in
-          let c = counted in
-          let w = within in
-          firstAt-any p (live t) ∙ lt-ltb (firstAt p (live t)) (length (live t)) (omega (arith, length-take (t .count) (t .rows)))
+      seeks-some e = seeking.seeks-some v h outRow e
 
     pub past : m ≤ i → min (t .count) (length (t .rows)) ≤ i
-    past h = let z = v .most in let l = v .long in omega arith
+    past h = seeking.past v h
 
     pub seeks-end : m ≤ i → i ≡ firstAt p (live t)
-    seeks-end h =
-        let z = firstAt-end (t .rows) (t .count) i p (past h) in
-        let f = v .first in
-        omega arith
+    seeks-end h = seeking.seeks-end v h
 
     pub seeks-none : m ≤ i → any p (live t) ≡ false
-    seeks-none h =
-        let f = seeks-end h in
-        let e = past h in
-        firstAt-any p (live t) ∙ le-ltb (firstAt p (live t)) (length (live t)) (omega (arith, length-take (t .count) (t .rows)))
+    seeks-none h = seeking.seeks-none v h

@@ -7,5 +7,8 @@ use Rattle.interval.specs.declared.Requests.{Requests}
 use Rattle.interval.specs.Table.{live}
 use Rattle.interval.specs.Rows.{active, named}
 
+abbrev pub task : ℕ → Request → Bool
+task n q = active q && named n q
+
 unfoldable pub activeIn : Requests → ℕ → Bool
-activeIn t n = any (λ (q : Request). active q && named n q) (live t)
+activeIn t n = any (task n) (live t)

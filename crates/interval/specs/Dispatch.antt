@@ -16,8 +16,6 @@ use Rattle.interval.specs.declared.answers.Dispatch.{Dispatch}
 use Rattle.interval.specs.declared.answers.Dispatch.the-variants.{Started, Nothing}
 use Rattle.interval.specs.declared.answers.Dispatched.{Dispatched}
 use Rattle.interval.specs.declared.dispatch.Busy.{Busy}
-use Rattle.interval.specs.declared.dispatch.Picked.{Picked}
-use Rattle.interval.specs.declared.dispatch.Picked.the-variants as picked
 use Rattle.interval.specs.Table.{live, inPhase}
 use Rattle.interval.specs.Rows.{expired, active, outRow, withRow}
 
@@ -60,15 +58,20 @@ ready l q = expired q && free l q
 abbrev pub passedBy : ℕ → List Request → ℕ
 passedBy i l = length (keep expired (take i l))
 
+-- the row that starts and how many of the line stand before it; or how many the line has
+pub data Picked : Type 0 where
+  At : ℕ → ℕ → Picked
+  None : ℕ → Picked
+
 unfoldable pub pickIn : List Request → Picked
-pickIn l = pick (any (ready l) l) (picked.At (firstAt (ready l) l) (passedBy (firstAt (ready l) l) l)) (picked.Nothing (length (keep expired l)))
+pickIn l = pick (any (ready l) l) (At (firstAt (ready l) l) (passedBy (firstAt (ready l) l) l)) (None (length (keep expired l)))
 
 abbrev pub dispatchedRow : Requests → ℕ → Request → ℕ → Dispatched
 dispatchedRow t i q k = record { requests = withRow t i (inPhase (Active false) q); outcome = Started (q .name) (q .program) (q .terminal) k }
 
 abbrev pub dispatched : Requests → Picked → Dispatched
-dispatched t (picked.At i k) = dispatchedRow t i (getD (t .rows) i outRow) k
-dispatched t (picked.Nothing k) = record { requests = t; outcome = Nothing k }
+dispatched t (At i k) = dispatchedRow t i (getD (t .rows) i outRow) k
+dispatched t (None k) = record { requests = t; outcome = Nothing k }
 
 unfoldable pub dispatchIn : Requests → Dispatched
 dispatchIn t = dispatched t (pickIn (live t))

@@ -3,10 +3,22 @@ ghost use mathlib.Core.Path.{_≡_};
 ghost use Prim.Native.Nat.{ℕ};
 ghost use Rattle.model.specs.Interval as model;
 ghost use Rattle.interval.specs.Stands.{intervalAt};
-ghost use Rattle.interval.specs.Active.{activeIn};
+ghost use Rattle.interval.specs.Active.{task, activeIn};
+use crate::Request;
 use crate::Requests;
 use crate::rows;
 use base::sets::least;
+
+// Whether a request is the active task of that name. A caller that holds the rows looks through them by this, and copies no table.
+pub fn is_task(q: Request, name: u64) -> bool
+    ensures exact { λ r. ⌜ r ≡ task name q ⌝ }
+{
+    if q.name == name {
+        let p = q.phase;
+        return rows::active(p);
+    }
+    false
+}
 
 // "An active task is named by the request that started it."
 pub fn is_active(t: Requests, name: u64) -> bool
@@ -17,11 +29,8 @@ pub fn is_active(t: Requests, name: u64) -> bool
     let mut i: usize = 0;
     while i < m {
         let q = t.rows[i];
-        if q.name == name {
-            let p = q.phase;
-            if rows::active(p) {
-                return true;
-            }
+        if is_task(q, name) {
+            return true;
         }
         i += 1;
     }

@@ -8,7 +8,7 @@ ghost use Rattle.model.specs.Interval as model;
 ghost use Rattle.interval.specs.Table.{live};
 ghost use Rattle.interval.specs.Rows.{active};
 ghost use Rattle.interval.specs.Stands.{Means, soundR, intervalAt, Done};
-ghost use Rattle.interval.specs.Dispatch.{Runs, freeOf, pickIn, dispatchIn, dispatchGives, dispatchNumber, dispatchBytes};
+ghost use Rattle.interval.specs.Dispatch.{Runs, freeOf, dispatchIn, dispatchGives, dispatchNumber, dispatchBytes};
 use crate::Phase;
 use crate::Requests;
 use crate::answers::Dispatch;
@@ -66,58 +66,37 @@ fn free<'a>(
     !rows::known(terminals, n, terminal)
 }
 
-enum Picked {
-    At { row: usize, passed: u32 },
-    Nothing(u32),
-}
-
-// The first in the line that can start, and how many of the line stood before it; or how many the line has.
-fn pick(t: Requests, b: Busy) -> Picked
-    requires { ⌜ Runs (keep active (live t)) b ⌝ }
-    ensures { λ r. ⌜ r ≡ pickIn (live t) ⌝ }
+// "Dispatch takes the first in the line" that can start.
+pub fn dispatch(mut t: Requests) -> Dispatched
+    ensures exact { λ r. ⌜ r ≡ dispatchIn t ⌝ }
+    ensures model { λ r. ⌜ ((c : ℕ) → Means t c → soundR t ≡ true → Done c c t (r .requests) (model.dispatch (intervalAt c t)) (dispatchGives (r .outcome)) (dispatchNumber (r .outcome)) (dispatchBytes (r .outcome))) ⌝ }
 {
+    let b = busy_in(t);
     let m = least(t.count, 32);
-    let mut i: usize = 0;
     let mut passed: u32 = 0;
+    let mut i: usize = 0;
     while i < m {
         let q = t.rows[i];
         let p = q.phase;
         if rows::expired(p) {
             if free(&b.programs, &b.terminals, b.n, q.program, q.terminal) {
-                return Picked::At { row: i, passed };
+                t.rows[i] = rows::in_phase(q, Phase::Active(false));
+                return Dispatched {
+                    requests: t,
+                    outcome: Dispatch::Started {
+                        name: q.name,
+                        program: q.program,
+                        terminal: q.terminal,
+                        passed,
+                    },
+                };
             }
             passed += 1;
         }
         i += 1;
     }
-    Picked::Nothing(passed)
-}
-
-// "Dispatch takes the first in the line" that can start.
-pub fn dispatch(t: Requests) -> Dispatched
-    ensures exact { λ r. ⌜ r ≡ dispatchIn t ⌝ }
-    ensures model { λ r. ⌜ ((c : ℕ) → Means t c → soundR t ≡ true → Done c c t (r .requests) (model.dispatch (intervalAt c t)) (dispatchGives (r .outcome)) (dispatchNumber (r .outcome)) (dispatchBytes (r .outcome))) ⌝ }
-{
-    let b = busy_in(t);
-    let found = pick(t, b);
-    match found {
-        Picked::At { row, passed } => {
-            let q = t.rows[row];
-            let mut u = t;
-            u.rows[row] = rows::in_phase(q, Phase::Active(false));
-            Dispatched {
-                requests: u,
-                outcome: Dispatch::Started {
-                    name: q.name,
-                    program: q.program,
-                    terminal: q.terminal,
-                    passed,
-                },
-            }
-        }
-        Picked::Nothing(n) => Dispatched {
-            requests: t,
-            outcome: Dispatch::Nothing(n),
-        },
+    Dispatched {
+        requests: t,
+        outcome: Dispatch::Nothing(passed),
     }
 }

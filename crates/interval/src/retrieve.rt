@@ -68,7 +68,7 @@ fn cut(full: usize, room: usize) -> Retrieve
 }
 
 // "Retrieve gives the task's own data if it has some not yet taken. Otherwise the first in the line .. ; that request is removed."
-pub fn retrieve(t: Requests, task: u64, room: usize) -> Retrieved
+pub fn retrieve(mut t: Requests, task: u64, room: usize) -> Retrieved
     ensures exact { λ r. ⌜ r ≡ retrieveIn t task room ⌝ }
     ensures model { λ r. ⌜ ((c : ℕ) → Means t c → soundR t ≡ true → Done c c t (r .requests) (model.retrieve (intervalAt c t) task room) (retrieveGives (r .outcome)) (r .full) (take (r .len) (r .bytes))) ⌝ }
 {
@@ -78,9 +78,8 @@ pub fn retrieve(t: Requests, task: u64, room: usize) -> Retrieved
     if i < m {
         q = t.rows[i];
     }
-    let mut u = t;
     if has_own(q) {
-        u.rows[i] = rows::in_phase(q, Phase::Active(true));
+        t.rows[i] = rows::in_phase(q, Phase::Active(true));
     } else {
         let j = server(t, q.program, q.terminal);
         if m <= j {
@@ -93,12 +92,12 @@ pub fn retrieve(t: Requests, task: u64, room: usize) -> Retrieved
             };
         }
         q = t.rows[j];
-        u = rows::close(t, j);
+        t = rows::close(t, j);
     }
     let full = rows::size(q);
     let b = q.bytes;
     Retrieved {
-        requests: u,
+        requests: t,
         outcome: cut(full, room),
         full,
         len: least(full, room),

@@ -97,18 +97,17 @@ pub(crate) fn place(t: Requests, name: u64) -> usize
 }
 
 // The request at i goes, and those behind it move down.
-pub(crate) fn close(t: Requests, i: usize) -> Requests
+pub(crate) fn close(mut t: Requests, i: usize) -> Requests
     requires { ⌜ i < length (live t) ⌝ }
     ensures { λ r. ⌜ r ≡ withLive t (cutAt i (live t)) ⌝ }
 {
     let last = least(t.count, 32) - 1;
-    let mut u = t;
     let mut k = i;
     while k < last {
-        let v = u.rows[k + 1];
-        u.rows[k] = v;
+        let v = t.rows[k + 1];
+        t.rows[k] = v;
         k += 1;
     }
-    u.count = last;
-    u
+    t.count = last;
+    t
 }

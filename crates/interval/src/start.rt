@@ -98,7 +98,7 @@ fn new_row(
 }
 
 pub fn start(
-    t: Requests,
+    mut t: Requests,
     name: u64,
     program: u32,
     terminal: u32,
@@ -110,14 +110,19 @@ pub fn start(
 {
     let p = rows::known(&t.programs, t.pcount, program);
     let e = none_or_known(&t.terminals, t.tcount, terminal);
-    let i = rows::place(t, name);
     let m = least(t.count, 32);
+    let mut i: usize = 0;
+    while i < m {
+        if t.rows[i].name == name {
+            break;
+        }
+        i += 1;
+    }
     let o = rule(name, interval, bytes.len(), p, e, i < m, m);
-    let mut u = t;
     match o {
         Start::Done => {
-            u.rows[m] = new_row(t.register, name, program, terminal, interval, bytes);
-            u.count = m + 1;
+            t.rows[m] = new_row(t.register, name, program, terminal, interval, bytes);
+            t.count = m + 1;
         }
         Start::Invalid => {}
         Start::WrongLength => {}
@@ -127,7 +132,7 @@ pub fn start(
         Start::NoSpace => {}
     }
     Started {
-        requests: u,
+        requests: t,
         outcome: o,
     }
 }

@@ -1,5 +1,6 @@
 -- The state of the loop that runs the records of a framed list, and a turn of it. Assumes nothing.
-use mathlib.Core.Path.{_≡_, refl, ap, sym, _∙_}
+use mathlib.Core.Path.{_≡_, refl, ap, sym, subst, _∙_}
+use mathlib.Core.Bool.{true}
 use mathlib.Core.List.{List, [], _++_, append-assoc, append-nil}
 use Prim.Native.Nat.{ℕ, suc, _+_, _*_, _-_, _≤_}
 use native.Mathlib.Omega.{arith}
@@ -7,13 +8,17 @@ use mathlib.Core.Logic.{_⊎_, ⊎-elim}
 use lib.Dec.{leb}
 use borrow.Author.Tests.{leb-true, leb-false}
 use lib.ListN.{length, take, drop, length-append}
+use Rattle.base.specs.Bytes.{isByte, isBytes}
 use Rattle.base.specs.Lists.{over}
+use Rattle.base.specs.Laws.Keep.{all-take, all-drop}
 use Rattle.base.specs.Laws.Over.{length-over}
 use Rattle.base.specs.Laws.Tests.{byTest}
 use Rattle.model.specs.Lists.{encoded, encodedAll, answered}
 use Rattle.monitor.specs.Answers.{laid}
 use Rattle.monitor.specs.Step.{stepOn, Lent, lent, turned}
-use Rattle.monitor.specs.Table.{tables}
+use Rattle.monitor.specs.Table.{tables, soundP}
+use Rattle.monitor.specs.Laws.Fine.{Typed}
+use Rattle.monitor.specs.Laws.Step.{step-typed, step-keeps}
 use Rattle.monitor.specs.declared.Tables.{Tables}
 use Rattle.monitor.specs.declared.settle.Turned.{Turned}
 use Rattle.frames.specs.Reading.{nextAt, partAt, recordsFrom, Filled}
@@ -26,17 +31,21 @@ use Rattle.lists.specs.Run.{answersOn, reply, Fitting}
 use Rattle.lists.specs.Laws.Answers.{held, held-laid, laid-max}
 
 -- the answers of the records passed stand at the front of the buffer; those of the records left, from the tables as they are, are the
--- rest of all answers, and the buffer has room for them
+-- rest of all answers, and the buffer has room for them; the tables keep their types' bounds, and are sound
 pub record Running (l out₀ : List ℕ) (t₀ : Tables) (out : List ℕ) (t : Tables) (at w : ℕ) : Type 0 where
   pub filled : Filled l at
   pub front : List ℕ
   pub buffer : out ≡ over front out₀
   pub count : w ≡ length front
   pub room : w + 74 * length (recordsFrom l at) ≤ length out₀
+  pub bytes : isBytes l ≡ true
+  pub typed : Typed t
+  pub sound : soundP (t .parts) ≡ true
   pub all : front ++ encodedAll (answersOn t (recordsFrom l at)) ≡ encodedAll (answersOn t₀ (recordsFrom l 9))
 
-pub running-none : (l out : List ℕ) (t : Tables) → Fitting l out → Running l out t out t 9 0
-running-none l out t f = record { filled = f .filled; front = []; buffer = refl; count = refl; room = omega arith; all = refl }
+pub running-none : (l out : List ℕ) (t : Tables) → Fitting l out → isBytes l ≡ true → Typed t → soundP (t .parts) ≡ true → Running l out t out t 9 0
+running-none l out t f b y k =
+    record { filled = f .filled; front = []; buffer = refl; count = refl; room = omega arith; bytes = b; typed = y; sound = k; all = refl }
 
 module _ {l out₀ : List ℕ} {t₀ : Tables} {out : List ℕ} {t : Tables} {at w : ℕ} (R : Running l out₀ t₀ out t at w) where
   pub running-long : length out ≡ length out₀
@@ -67,6 +76,9 @@ module _ {l out₀ : List ℕ} {t₀ : Tables} {out : List ℕ} {t : Tables} {at
 
     pub onward : Onward l at start next
     onward = filled-next l at (R .filled) start next said
+
+    one-bytes : isBytes rec ≡ true
+    one-bytes = all-take isByte (next - start) (drop start l) (all-drop isByte start l (R .bytes))
 
     one : length (recordsFrom l at) ≡ suc (length (recordsFrom l next))
     one = ap length (sym (onward .cut))
@@ -108,6 +120,9 @@ module _ {l out₀ : List ℕ} {t₀ : Tables} {out : List ℕ} {t : Tables} {at
               buffer = over-put-tail w out e ys running-fits (a .1) (R .front) out₀ (R .buffer) (R .count);
               count = omega (arith, length-append (R .front) e);
               room = omega arith;
+              bytes = R .bytes;
+              typed = subst Typed (sym tables-is) (step-typed t (R .typed) (R .sound) rec one-bytes);
+              sound = ap (λ (x : Tables). soundP (x .parts)) tables-is ∙ step-keeps t (R .typed) (R .sound) rec one-bytes;
               all =
                   append-assoc (R .front) e (encodedAll (answersOn (tables (s .parts) items) (recordsFrom l next)))
                   ∙ ap (λ (x : Tables). R .front ++ (e ++ encodedAll (answersOn x (recordsFrom l next)))) tables-is

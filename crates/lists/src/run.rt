@@ -11,6 +11,7 @@ ghost use Rattle.lists.specs.Run.{answersOn, runOn, ran, Fitting, reply}
 ghost use Rattle.lists.specs.Laws.Answers.{held};
 use crate::fresh::fresh_requests;
 use crate::fresh::fresh_tasks;
+use base::sets::least;
 use frames::framing::Framing;
 use frames::framing::frame;
 use frames::reading::Part;
@@ -19,13 +20,15 @@ use frames::writing::write_answer;
 use handlers::Setting;
 use handlers::decide::decide;
 use handlers::forget::forget;
-use interval::active::is_active;
+use interval::active::is_task;
 use interval::remove::remove;
 use monitor::answers::Answer;
 use monitor::answers::answered;
 use monitor::answers::plain;
-use monitor::lanes::Lane;
 use monitor::lanes::decides;
+use monitor::lanes::for_requests;
+use monitor::lanes::for_settings;
+use monitor::lanes::for_store;
 use monitor::lanes::judge;
 use monitor::lanes::lane_of;
 use monitor::lanes::word_of;
@@ -69,8 +72,10 @@ fn write(out: &mut [u8], a: Answer) -> usize
 }
 
 // The records of a framed list, where the buffer has 74 bytes for each: how many bytes their answers took.
-// "Each answer goes into the lent buffer behind the one before it." The parts stand here by themselves and a record is handed to the one that
-// it is for: a call copies each struct that it takes and gives.
+// "Each answer goes into the lent buffer behind the one before it."
+//
+// A call copies each struct that it takes and gives. So the parts are locals of this function, which looks for the issuer itself and calls each
+// command from an arm of its own: a function between would copy a part once or twice more for every record (docs/SPEED.md).
 fn run_records(list: &[u8], out: &mut [u8], register: u32) -> usize
     requires { ⌜ Fitting (now list) (now out) ⌝ }
     ensures { λ r. ⌜ reply 0 r (now (out .exit)) ≡ answered (answersOn (freshTables register) (recordsFrom (now (list .entry)) 9)) (now (out .entry)) ⌝ }
@@ -83,37 +88,105 @@ fn run_records(list: &[u8], out: &mut [u8], register: u32) -> usize
     let mut written: usize = 0;
     while let Part::Record { start, next } = part_at(list, at) {
         let rec = &list[start..next];
+
+        // who sends it: the system, or an active task
         let issuer = records::issuer(rec);
         let mut may = true;
         if issuer != SYSTEM {
-            may = is_active(requests, issuer);
+            let m = least(requests.count, 32);
+            let mut i: usize = 0;
+            while i < m {
+                let q = requests.rows[i];
+                if is_task(q, issuer) {
+                    break;
+                }
+                i += 1;
+            }
+            may = i < m;
         }
+
+        // the part that it is for
         let lane = lane_of(rec, issuer, may);
+        let command = records::command(rec);
         let mut said = word_of(lane);
-        match lane {
-            Lane::Ticks => {
-                said = plain(0, requests.register);
+        if for_requests(lane) {
+            match command {
+                1 => {
+                    let a = monitor::requests::define_program(requests, rec);
+                    said = a.said;
+                    requests = a.requests;
+                }
+                2 => {
+                    let a = monitor::requests::define_terminal(requests, rec);
+                    said = a.said;
+                    requests = a.requests;
+                }
+                3 => {
+                    let a = monitor::requests::advance(requests, rec);
+                    said = a.said;
+                    requests = a.requests;
+                }
+                4 => {
+                    said = plain(0, requests.register);
+                }
+                5 => {
+                    let a = monitor::requests::dispatch(requests);
+                    said = a.said;
+                    requests = a.requests;
+                }
+                6 => {
+                    let a = monitor::requests::start(requests, rec);
+                    said = a.said;
+                    requests = a.requests;
+                }
+                7 => {
+                    let a = monitor::requests::cancel(requests, rec);
+                    said = a.said;
+                    requests = a.requests;
+                }
+                _ => {
+                    let a = monitor::requests::retrieve(requests, rec);
+                    said = a.said;
+                    requests = a.requests;
+                }
             }
-            Lane::Requests => {
-                let a = monitor::requests::ask(requests, records::command(rec), rec);
-                said = a.said;
-                requests = a.requests;
-            }
-            Lane::Store => {
-                let s = monitor::store::ask(queues, &mut items, records::command(rec), rec);
-                said = s.said;
-                queues = s.queues;
-            }
-            Lane::Settings => {
-                let m = monitor::settings::ask(tasks, records::command(rec), rec);
-                said = m.said;
-                tasks = m.tasks;
-            }
-            Lane::Malformed => {}
-            Lane::Stranger => {}
-            Lane::Wrong => {}
-            Lane::Finish => {}
         }
+        if for_store(lane) {
+            match command {
+                10 => {
+                    let a = monitor::store::append(queues, &mut items, rec);
+                    said = a.said;
+                    queues = a.queues;
+                }
+                11 => {
+                    let a = monitor::store::read_next(queues, &items, rec);
+                    said = a.said;
+                    queues = a.queues;
+                }
+                12 => {
+                    let a = monitor::store::read_at(queues, &items, rec);
+                    said = a.said;
+                    queues = a.queues;
+                }
+                13 => {
+                    let a = monitor::store::rewrite(queues, &mut items, rec);
+                    said = a.said;
+                    queues = a.queues;
+                }
+                _ => {
+                    let a = monitor::store::delete(queues, rec);
+                    said = a.said;
+                    queues = a.queues;
+                }
+            }
+        }
+        if for_settings(lane) {
+            let a = monitor::settings::ask(tasks, command, rec);
+            said = a.said;
+            tasks = a.tasks;
+        }
+
+        // what the task's settings decide
         let mut by = Setting::Ignore;
         if decides(lane, said.condition, issuer) {
             by = decide(tasks, issuer, said.condition);
@@ -123,6 +196,8 @@ fn run_records(list: &[u8], out: &mut [u8], register: u32) -> usize
             requests = remove(requests, issuer);
             tasks = forget(tasks, issuer);
         }
+
+        // the answer
         let a = answered(said, v.action, v.label);
         let n = write(&mut out[written..], a);
         written = written + n;

@@ -15,7 +15,7 @@ use Rattle.handlers.specs.declared.Setting.{Setting}
 use Rattle.handlers.specs.declared.Setting.the-variants.{Unset, Ignore, Label}
 use Rattle.monitor.specs.declared.Tables.{Tables}
 use Rattle.monitor.specs.declared.lanes.Lane.{Lane}
-use Rattle.monitor.specs.declared.lanes.Lane.the-variants.{Malformed, Stranger, Wrong, Ticks, Requests, Finish, Store, Settings}
+use Rattle.monitor.specs.declared.lanes.Lane.the-variants.{Malformed, Stranger, Wrong, Requests, Finish, Store, Settings}
 use Rattle.monitor.specs.declared.lanes.Verdict.{Verdict}
 use Rattle.monitor.specs.Requests.{askOf}
 use Rattle.monitor.specs.Settings.{settingTurn}
@@ -27,18 +27,45 @@ use Rattle.monitor.specs.Step.{stepped}
 
 -- by the number of the command
 unfoldable pub commandLane : ℕ → Lane
-commandLane n = pick (eqb n 4) Ticks (pick (leb n 8) Requests (pick (eqb n 9) Finish (pick (leb n 14) Store Settings)))
+commandLane n = pick (leb n 8) Requests (pick (eqb n 9) Finish (pick (leb n 14) Store Settings))
 
 -- of a record from an issuer who may send one, or may not
 unfoldable pub laneOf : Bool → ℕ → List ℕ → Lane
 laneOf may n r = pick (formed r) (pick may (pick (wrongKind (rowOf (command r) .who) n) Wrong (commandLane (command r))) Stranger) Malformed
+
+-- the part that is asked
+abbrev pub forRequests : Lane → Bool
+forRequests Malformed = false
+forRequests Stranger = false
+forRequests Wrong = false
+forRequests Requests = true
+forRequests Finish = false
+forRequests Store = false
+forRequests Settings = false
+
+abbrev pub forStore : Lane → Bool
+forStore Malformed = false
+forStore Stranger = false
+forStore Wrong = false
+forStore Requests = false
+forStore Finish = false
+forStore Store = true
+forStore Settings = false
+
+abbrev pub forSettings : Lane → Bool
+forSettings Malformed = false
+forSettings Stranger = false
+forSettings Wrong = false
+forSettings Requests = false
+forSettings Finish = false
+forSettings Store = false
+forSettings Settings = true
 
 -- the condition where no part is asked
 abbrev pub wordOf : Lane → ℕ
 wordOf Malformed = 33
 wordOf Stranger = 34
 wordOf Wrong = 10
-wordOf Ticks = 0
 wordOf Requests = 0
 wordOf Finish = 0
 wordOf Store = 0
@@ -49,7 +76,6 @@ abbrev pub laned : Lane → Tables → List ℕ → Outcome Tables
 laned Malformed t r = fault t 33
 laned Stranger t r = fault t 34
 laned Wrong t r = fault t 10
-laned Ticks t r = done t (t .parts .requests .register)
 laned Requests t r = outcomeIn (withRequests t) (interval.turn (t .parts .requests) (askOf (command r) r))
 laned Finish t r = done t 0
 laned Store t r = outcomeIn (withStore t) (queues.turn (storeOf t) (storeAsk (command r) r))
@@ -62,7 +88,6 @@ abbrev pub heardIn : Lane → Bool
 heardIn Malformed = false
 heardIn Stranger = false
 heardIn Wrong = true
-heardIn Ticks = true
 heardIn Requests = true
 heardIn Finish = true
 heardIn Store = true
@@ -80,7 +105,6 @@ abbrev pub finishesIn : Lane → Bool
 finishesIn Malformed = false
 finishesIn Stranger = false
 finishesIn Wrong = false
-finishesIn Ticks = false
 finishesIn Requests = false
 finishesIn Finish = true
 finishesIn Store = false

@@ -2,7 +2,7 @@
 ghost use mathlib.Core.Path.{_≡_};
 ghost use mathlib.Core.List.{[]};
 ghost use Rattle.monitor.specs.Answers.{saying};
-ghost use Rattle.monitor.specs.Lanes.{commandLane, laneOf, wordOf, heardIn, decidesIn, finishesIn, verdictOf};
+ghost use Rattle.monitor.specs.Lanes.{commandLane, laneOf, forRequests, forStore, forSettings, wordOf, heardIn, decidesIn, finishesIn, verdictOf};
 use crate::answers::Said;
 use crate::answers::plain;
 use crate::settle::SYSTEM;
@@ -12,7 +12,6 @@ pub enum Lane {
     Malformed,
     Stranger,
     Wrong, // "any other issuer gets 10"
-    Ticks,
     Requests,
     Finish,
     Store,
@@ -30,9 +29,6 @@ pub struct Verdict {
 fn command_lane(command: u8) -> Lane
     ensures { λ r. ⌜ r ≡ commandLane command ⌝ }
 {
-    if command == 4 {
-        return Lane::Ticks;
-    }
     if command <= 8 {
         return Lane::Requests;
     }
@@ -62,6 +58,51 @@ pub fn lane_of(rec: &[u8], issuer: u64, may: bool) -> Lane
     command_lane(command)
 }
 
+// Whether interval control is asked.
+pub fn for_requests(lane: Lane) -> bool
+    ensures exact { λ r. ⌜ r ≡ forRequests lane ⌝ }
+{
+    match lane {
+        Lane::Malformed => false,
+        Lane::Stranger => false,
+        Lane::Wrong => false,
+        Lane::Requests => true,
+        Lane::Finish => false,
+        Lane::Store => false,
+        Lane::Settings => false,
+    }
+}
+
+// Whether temporary storage is asked.
+pub fn for_store(lane: Lane) -> bool
+    ensures exact { λ r. ⌜ r ≡ forStore lane ⌝ }
+{
+    match lane {
+        Lane::Malformed => false,
+        Lane::Stranger => false,
+        Lane::Wrong => false,
+        Lane::Requests => false,
+        Lane::Finish => false,
+        Lane::Store => true,
+        Lane::Settings => false,
+    }
+}
+
+// Whether the settings are asked.
+pub fn for_settings(lane: Lane) -> bool
+    ensures exact { λ r. ⌜ r ≡ forSettings lane ⌝ }
+{
+    match lane {
+        Lane::Malformed => false,
+        Lane::Stranger => false,
+        Lane::Wrong => false,
+        Lane::Requests => false,
+        Lane::Finish => false,
+        Lane::Store => false,
+        Lane::Settings => true,
+    }
+}
+
 fn word_code(lane: Lane) -> u8
     ensures { λ r. ⌜ r ≡ wordOf lane ⌝ }
 {
@@ -69,7 +110,6 @@ fn word_code(lane: Lane) -> u8
         Lane::Malformed => 33,
         Lane::Stranger => 34,
         Lane::Wrong => 10,
-        Lane::Ticks => 0,
         Lane::Requests => 0,
         Lane::Finish => 0,
         Lane::Store => 0,
@@ -91,7 +131,6 @@ fn heard(lane: Lane) -> bool
         Lane::Malformed => false,
         Lane::Stranger => false,
         Lane::Wrong => true,
-        Lane::Ticks => true,
         Lane::Requests => true,
         Lane::Finish => true,
         Lane::Store => true,
@@ -119,7 +158,6 @@ fn finishes(lane: Lane) -> bool
         Lane::Malformed => false,
         Lane::Stranger => false,
         Lane::Wrong => false,
-        Lane::Ticks => false,
         Lane::Requests => false,
         Lane::Finish => true,
         Lane::Store => false,

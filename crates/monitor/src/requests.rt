@@ -143,8 +143,8 @@ fn handing(condition: u8, full: usize, len: usize, bytes: [u8; 64]) -> Said
 // ---- the commands
 
 // 1 define program: 4
-fn define_program(t: Requests, rec: &[u8]) -> Asked
-    ensures { λ r. ⌜ r ≡ asks (runs.turn t (runs.Program (operand 0 4 (now (rec .entry))))) ⌝ }
+pub fn define_program(t: Requests, rec: &[u8]) -> Asked
+    ensures exact { λ r. ⌜ r ≡ asks (runs.turn t (runs.Program (operand 0 4 (now (rec .entry))))) ⌝ }
 {
     let d = interval::define::define_program(t, records::number4_at(rec, 9));
     let o = d.outcome;
@@ -156,8 +156,8 @@ fn define_program(t: Requests, rec: &[u8]) -> Asked
 }
 
 // 2 define terminal: 4
-fn define_terminal(t: Requests, rec: &[u8]) -> Asked
-    ensures { λ r. ⌜ r ≡ asks (runs.turn t (runs.Terminal (operand 0 4 (now (rec .entry))))) ⌝ }
+pub fn define_terminal(t: Requests, rec: &[u8]) -> Asked
+    ensures exact { λ r. ⌜ r ≡ asks (runs.turn t (runs.Terminal (operand 0 4 (now (rec .entry))))) ⌝ }
 {
     let d = interval::define::define_terminal(t, records::number4_at(rec, 9));
     let o = d.outcome;
@@ -169,8 +169,8 @@ fn define_terminal(t: Requests, rec: &[u8]) -> Asked
 }
 
 // 3 advance: ticks 4
-fn advance(t: Requests, rec: &[u8]) -> Asked
-    ensures { λ r. ⌜ r ≡ asks (runs.turn t (runs.Advance (operand 0 4 (now (rec .entry))))) ⌝ }
+pub fn advance(t: Requests, rec: &[u8]) -> Asked
+    ensures exact { λ r. ⌜ r ≡ asks (runs.turn t (runs.Advance (operand 0 4 (now (rec .entry))))) ⌝ }
 {
     let a = interval::advance::advance(t, records::number4_at(rec, 9));
     let o = a.outcome;
@@ -192,8 +192,8 @@ fn ask_ticks(t: Requests) -> Asked
 }
 
 // 5 dispatch
-fn dispatch(t: Requests) -> Asked
-    ensures { λ r. ⌜ r ≡ asks (runs.turn t runs.Dispatch) ⌝ }
+pub fn dispatch(t: Requests) -> Asked
+    ensures exact { λ r. ⌜ r ≡ asks (runs.turn t runs.Dispatch) ⌝ }
 {
     let d = interval::dispatch::dispatch(t);
     let o = d.outcome;
@@ -205,8 +205,8 @@ fn dispatch(t: Requests) -> Asked
 }
 
 // 6 start: request 8, program 4, terminal 4, interval 4, rest data
-fn start(t: Requests, rec: &[u8]) -> Asked
-    ensures { λ r. ⌜ r ≡ asks (runs.turn t (runs.Start (asked (now (rec .entry))))) ⌝ }
+pub fn start(t: Requests, rec: &[u8]) -> Asked
+    ensures exact { λ r. ⌜ r ≡ asks (runs.turn t (runs.Start (asked (now (rec .entry))))) ⌝ }
 {
     let name = records::name_at(rec, 9);
     let program = records::number4_at(rec, 17);
@@ -222,8 +222,8 @@ fn start(t: Requests, rec: &[u8]) -> Asked
 }
 
 // 7 cancel: request 8
-fn cancel(t: Requests, rec: &[u8]) -> Asked
-    ensures { λ r. ⌜ r ≡ asks (runs.turn t (runs.Cancel (operand 0 8 (now (rec .entry))))) ⌝ }
+pub fn cancel(t: Requests, rec: &[u8]) -> Asked
+    ensures exact { λ r. ⌜ r ≡ asks (runs.turn t (runs.Cancel (operand 0 8 (now (rec .entry))))) ⌝ }
 {
     let d = interval::cancel::cancel(t, records::name_at(rec, 9));
     let o = d.outcome;
@@ -235,8 +235,8 @@ fn cancel(t: Requests, rec: &[u8]) -> Asked
 }
 
 // 8 retrieve: room 1
-fn retrieve(t: Requests, rec: &[u8]) -> Asked
-    ensures { λ r. ⌜ r ≡ asks (runs.turn t (runs.Retrieve (issuer (now (rec .entry))) (operand 0 1 (now (rec .entry))))) ⌝ }
+pub fn retrieve(t: Requests, rec: &[u8]) -> Asked
+    ensures exact { λ r. ⌜ r ≡ asks (runs.turn t (runs.Retrieve (issuer (now (rec .entry))) (operand 0 1 (now (rec .entry))))) ⌝ }
 {
     let task = records::issuer(rec);
     let room = wide(records::number1_at(rec, 9));

@@ -96,8 +96,8 @@ fn reading(items: &[u8], o: Reading) -> Said
 // ---- the commands
 
 // 10 append: queue 8, rest item
-fn append(q: Queues, items: &mut [u8; 8192], rec: &[u8]) -> Stored
-    ensures { λ r. ⌜ lent r (now (items .exit)) ≡ stores (turn (store q (now (items .entry))) (Append (operand 0 8 (now (rec .entry))) (rest 8 (now (rec .entry))))) ⌝ }
+pub fn append(q: Queues, items: &mut [u8; 8192], rec: &[u8]) -> Stored
+    ensures exact { λ r. ⌜ lent r (now (items .exit)) ≡ stores (turn (store q (now (items .entry))) (Append (operand 0 8 (now (rec .entry))) (rest 8 (now (rec .entry))))) ⌝ }
 {
     let name = records::name_at(rec, 9);
     let a = queues::append::append(q, items, ALL, name, records::rest_at(rec, 17));
@@ -110,8 +110,8 @@ fn append(q: Queues, items: &mut [u8; 8192], rec: &[u8]) -> Stored
 }
 
 // 11 read next: queue 8, room 1
-fn read_next(q: Queues, items: &[u8; 8192], rec: &[u8]) -> Stored
-    ensures { λ r. ⌜ lent r (now (items .entry)) ≡ stores (turn (store q (now (items .entry))) (Next (operand 0 8 (now (rec .entry))) (operand 8 1 (now (rec .entry))))) ⌝ }
+pub fn read_next(q: Queues, items: &[u8; 8192], rec: &[u8]) -> Stored
+    ensures exact { λ r. ⌜ lent r (now (items .entry)) ≡ stores (turn (store q (now (items .entry))) (Next (operand 0 8 (now (rec .entry))) (operand 8 1 (now (rec .entry))))) ⌝ }
 {
     let b: &[u8] = items;
     let name = records::name_at(rec, 9);
@@ -126,8 +126,8 @@ fn read_next(q: Queues, items: &[u8; 8192], rec: &[u8]) -> Stored
 }
 
 // 12 read at: queue 8, place 2, room 1
-fn read_at(q: Queues, items: &[u8; 8192], rec: &[u8]) -> Stored
-    ensures { λ r. ⌜ lent r (now (items .entry)) ≡ stores (turn (store q (now (items .entry))) (At (operand 0 8 (now (rec .entry))) (operand 8 2 (now (rec .entry))) (operand 10 1 (now (rec .entry))))) ⌝ }
+pub fn read_at(q: Queues, items: &[u8; 8192], rec: &[u8]) -> Stored
+    ensures exact { λ r. ⌜ lent r (now (items .entry)) ≡ stores (turn (store q (now (items .entry))) (At (operand 0 8 (now (rec .entry))) (operand 8 2 (now (rec .entry))) (operand 10 1 (now (rec .entry))))) ⌝ }
 {
     let b: &[u8] = items;
     let name = records::name_at(rec, 9);
@@ -143,8 +143,8 @@ fn read_at(q: Queues, items: &[u8; 8192], rec: &[u8]) -> Stored
 }
 
 // 13 rewrite: queue 8, place 2, rest item
-fn rewrite(q: Queues, items: &mut [u8; 8192], rec: &[u8]) -> Stored
-    ensures { λ r. ⌜ lent r (now (items .exit)) ≡ stores (turn (store q (now (items .entry))) (Rewrite (operand 0 8 (now (rec .entry))) (operand 8 2 (now (rec .entry))) (rest 10 (now (rec .entry))))) ⌝ }
+pub fn rewrite(q: Queues, items: &mut [u8; 8192], rec: &[u8]) -> Stored
+    ensures exact { λ r. ⌜ lent r (now (items .exit)) ≡ stores (turn (store q (now (items .entry))) (Rewrite (operand 0 8 (now (rec .entry))) (operand 8 2 (now (rec .entry))) (rest 10 (now (rec .entry))))) ⌝ }
 {
     let name = records::name_at(rec, 9);
     let place = records::number2_at(rec, 17) as usize;
@@ -158,8 +158,8 @@ fn rewrite(q: Queues, items: &mut [u8; 8192], rec: &[u8]) -> Stored
 }
 
 // 14 delete queue: 8
-fn delete(q: Queues, rec: &[u8]) -> Stored
-    ensures { λ r. ⌜ ((b : List ℕ) → lent r b ≡ stores (turn (store q b) (Delete (operand 0 8 (now (rec .entry)))))) ⌝ }
+pub fn delete(q: Queues, rec: &[u8]) -> Stored
+    ensures exact { λ r. ⌜ ((b : List ℕ) → lent r b ≡ stores (turn (store q b) (Delete (operand 0 8 (now (rec .entry)))))) ⌝ }
 {
     let d = queues::delete::delete(q, records::name_at(rec, 9));
     let o = d.outcome;

@@ -1,5 +1,5 @@
 -- The cases of `appendTo`, each from the tests that lead there; and what the row that a search gives says of the name. Assumes nothing.
-use mathlib.Core.Path.{_≡_, refl, sym, ap, _∙_}
+use mathlib.Core.Path.{_≡_, refl, sym, ap, ap₂, _∙_, subst}
 use mathlib.Core.Bool.{true, false, not, _&&_, _||_}
 use mathlib.Core.List.{List, [], _∷_}
 use Prim.Native.Nat.{ℕ, _+_, _≤_, _<_, min}
@@ -11,7 +11,7 @@ use Rattle.base.specs.Lists.{has, copies, firstAt}
 use Rattle.base.specs.Bytes.{blank}
 use Rattle.base.specs.Laws.Tests.{byTest, pick-elim}
 use Rattle.base.specs.Laws.Keep.{firstAt-none, firstAt-lt}
-use Rattle.slots.specs.Bits.{held, freeFor, marked}
+use Rattle.slots.specs.Bits.{freeFor, marked}
 use Rattle.slots.specs.declared.Used.{Used}
 use Rattle.slots.specs.declared.Slot.the-variants.{At, Full}
 use Rattle.model.specs.Limits.{some}
@@ -126,6 +126,20 @@ length-test : (item : List ℕ) → (not (some item) || ltb 64 (length item)) �
 length-test item =
     byTest (some item) (λ e. rw (e, le-ltb (length item) 1 (leb-true 1 (length item) e))) (λ e. rw (e, lt-ltb (length item) 1 (leb-false 1 (length item) e)))
 
+-- ---- a queue that is made leaves the entries as they are
+
+module _ (q : Queues) (n : ℕ) (x : Queues) (made : x ≡ withQueue q n) where
+  either : (P : Queues → Type 0) → P q → P (grown q n) → P x
+  either P old new = subst P (sym made) (pick-elim P (has n (namesOf q)) q (grown q n) (λ _. old) (λ _. new))
+
+  made-used : x .used ≡ q .used
+  unfolding grown
+  made-used = either (λ (y : Queues). y .used ≡ q .used) refl refl
+
+  pub made-owner : length (x .owner) ≡ length (q .owner)
+  unfolding grown
+  made-owner = either (λ (y : Queues). length (y .owner) ≡ length (q .owner)) refl refl
+
 -- ---- the cases
 
 module _ (q : Queues) (t : Typed q) (b : List ℕ) (may n : ℕ) (item : List ℕ) where
@@ -142,69 +156,41 @@ module _ (q : Queues) (t : Typed q) (b : List ℕ) (may n : ℕ) (item : List �
       (λ z. let f = rw (x, y, z) at e in rw (x, y, row-full q t n (rowOf q n) refl (leb-true 16 (rowOf q n) z)) (cc))
       (λ z. absurd (never (sym (rw (x, y, z) at e)))))))
 
-  module _ (row : ℕ) (c : Clear q n (length item) row) where
-    append-slot : inSlot (withQueue q n) b n item (freeFor may (q .used)) ≡ appendTo q b may n item
+  -- where none holds: what is done in the struct x, in which the name has a row
+  module _ (row : ℕ) (c : Clear q n (length item) row) (x : Queues) (made : x ≡ withQueue q n) where
+    append-slot : inSlot x b n item (freeFor may (x .used)) ≡ appendTo q b may n item
     unfolding appendTo
     append-slot =
-        rw (
+        ap₂ (λ (y : Queues) (u : Used). inSlot y b n item (freeFor may u)) made (made-used q n x made)
+        ∙ rw (
           c .named,
           le-leb 1 (length item) (c .low),
           le-ltb 64 (length item) (c .high),
           row-room q t n row (c .found) (c .below),
         )
 
-    pub append-no-slot : (r : Queues) → r ≡ withQueue q n → freeFor may (q .used) ≡ Full → answer r b NoSpace ≡ appendTo q b may n item
-    append-no-slot r e z =
-        ap (λ (x : Queues). answer x b NoSpace) e ∙ sym (ap (inSlot (withQueue q n) b n item) z) ∙ append-slot
+    pub append-no-slot : freeFor may (x .used) ≡ Full → answer x b NoSpace ≡ appendTo q b may n item
+    append-no-slot z = sym (ap (inSlot x b n item) z) ∙ append-slot
 
-    pub append-stored : (k : ℕ) → freeFor may (q .used) ≡ At k
-        → answer (put (withQueue q n) n (length item) k) (stored b item k) (Stored (copies n (owners (withQueue q n)) + 1)) ≡ appendTo q b may n item
-    append-stored k z = sym (ap (inSlot (withQueue q n) b n item) z) ∙ append-slot
+    pub append-stored : (k : ℕ) → freeFor may (x .used) ≡ At k
+        → answer (put x n (length item) k) (stored b item k) (Stored (copies n (owners x) + 1)) ≡ appendTo q b may n item
+    append-stored k z = sym (ap (inSlot x b n item) z) ∙ append-slot
 
 -- ---- the stores
 
--- a queue that is made leaves the entries as they are
-module _ (q : Queues) (n : ℕ) where
-  with-used : withQueue q n .used ≡ q .used
-  unfolding grown
-  with-used = pick-elim (λ (x : Queues). x .used ≡ q .used) (has n (namesOf q)) q (grown q n) (λ _. refl) (λ _. refl)
-
-  with-owner : withQueue q n .owner ≡ q .owner
-  unfolding grown
-  with-owner = pick-elim (λ (x : Queues). x .owner ≡ q .owner) (has n (namesOf q)) q (grown q n) (λ _. refl) (λ _. refl)
-
-  module _ (x : Queues) (made : x ≡ withQueue q n) (t : Typed q) where
-    pub made-owner : length (x .owner) ≡ 128
-    made-owner = ap (λ (y : Queues). length (y .owner)) made ∙ ap length with-owner ∙ t .owner-long
-
-    pub made-slot : length (x .slot) ≡ 128
-    unfolding grown
-    made-slot =
-        ap (λ (y : Queues). length (y .slot)) made
-        ∙ pick-elim (λ (y : Queues). length (y .slot) ≡ 128) (has n (namesOf q)) q (grown q n) (λ _. t .slot-long) (λ _. t .slot-long)
-
-    pub made-len : length (x .len) ≡ 128
-    unfolding grown
-    made-len =
-        ap (λ (y : Queues). length (y .len)) made
-        ∙ pick-elim (λ (y : Queues). length (y .len) ≡ 128) (has n (namesOf q)) q (grown q n) (λ _. t .len-long) (λ _. t .len-long)
-
-  -- the stores of an item, one by one, are `put`
-  pub stores-put : (x : Queues) → x ≡ withQueue q n → (size k e c : ℕ) (u : Used) → e ≡ entries q → c ≡ copies n (take e (q .owner)) → u ≡ marked (q .used) k
-      → (b : List ℕ) → answer (record {
-        count = x .count;
-        names = x .names;
-        pointers = x .pointers;
-        used = u;
-        owner = set (x .owner) e n;
-        slot = set (x .slot) e k;
-        len = set (x .len) k size;
-      }) b (Stored (c + 1)) ≡ answer (put (withQueue q n) n size k) b (Stored (copies n (owners (withQueue q n)) + 1))
-  unfolding put
-  stores-put x made size k e c u he hc hu b =
-      let f : entries (withQueue q n) ≡ entries q = ap held with-used in
-      let g : marked (withQueue q n .used) k ≡ marked (q .used) k = ap (λ (v : Used). marked v k) with-used in
-      cc (made, with-owner)
+-- the stores of an item, one by one, are `put`
+pub stores-put : (x : Queues) (n size k e c : ℕ) (u : Used) → e ≡ entries x → c ≡ copies n (take e (x .owner)) → u ≡ marked (x .used) k
+    → (b : List ℕ) → answer (record {
+      count = x .count;
+      names = x .names;
+      pointers = x .pointers;
+      used = u;
+      owner = set (x .owner) e n;
+      slot = set (x .slot) e k;
+      len = set (x .len) k size;
+    }) b (Stored (c + 1)) ≡ answer (put x n size k) b (Stored (copies n (owners x) + 1))
+unfolding put
+stores-put x n size k e c u he hc hu b = cc
 
 pub copies-le : (n : ℕ) (l : List ℕ) → copies n l ≤ length l
 copies-le n [] = omega arith

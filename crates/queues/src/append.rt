@@ -60,7 +60,7 @@ fn fault(w: Way) -> Appending
 }
 
 // The item into the lowest free slot, as the last entry; an unknown name is made a queue. `may` is how many slots the asker may fill.
-pub fn append(q: Queues, items: &mut [u8; 8192], may: usize, name: u64, item: &[u8]) -> Appended
+pub fn append(mut q: Queues, items: &mut [u8; 8192], may: usize, name: u64, item: &[u8]) -> Appended
     ensures exact { λ r. ⌜ lent r (now (items .exit)) ≡ appendTo q (now (items .entry)) may name (now (item .entry)) ⌝ }
     ensures model { λ r. ⌜ (soundQ q ≡ true → may ≤ 128 → Did q (now (items .entry)) (r .queues) (now (items .exit)) (model.append cabinet may (queuesOf q (now (items .entry))) name (now (item .entry))) (conditionOf (r .outcome)) (numberOf (r .outcome)) []) ⌝ }
 {
@@ -73,29 +73,28 @@ pub fn append(q: Queues, items: &mut [u8; 8192], may: usize, name: u64, item: &[
             outcome: fault(w),
         };
     };
-    let mut t = q;
     if row >= q.count {
-        t.names[row] = name;
-        t.pointers[row] = 0;
-        t.count = row + 1;
+        q.names[row] = name;
+        q.pointers[row] = 0;
+        q.count = row + 1;
     }
     let u = q.used;
     let free = slots::free_slot(u, may);
     let Slot::At(k) = free else {
         return Appended {
-            queues: t,
+            queues: q,
             outcome: Appending::NoSpace,
         };
     };
     let e = slots::count(u);
     let place = tally(&q.owner, e, name) + 1;
-    t.owner[e] = name;
-    t.slot[e] = k as u8;
-    t.len[k] = n as u8;
-    t.used = slots::mark(u, k);
+    q.owner[e] = name;
+    q.slot[e] = k as u8;
+    q.len[k] = n as u8;
+    q.used = slots::mark(u, k);
     store(b, k * 64, item);
     Appended {
-        queues: t,
+        queues: q,
         outcome: Appending::Stored(place as u32),
     }
 }

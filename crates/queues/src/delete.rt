@@ -24,7 +24,7 @@ pub struct Deleted {
     pub outcome: Deleting,
 }
 
-pub fn delete(q: Queues, name: u64) -> Deleted
+pub fn delete(mut q: Queues, name: u64) -> Deleted
     ensures exact { λ r. ⌜ r ≡ deleteFrom q name ⌝ }
     ensures model { λ r. ⌜ (soundQ q ≡ true → (b : List ℕ) → Did q b (r .queues) b (delete (queuesOf q b) name) (conditionOf (r .outcome)) (numberOf (r .outcome)) []) ⌝ }
 {
@@ -42,41 +42,39 @@ pub fn delete(q: Queues, name: u64) -> Deleted
             outcome: Deleting::UnknownQueue,
         };
     }
-    let mut t = q;
     let mut i: usize = row;
     while i + 1 < m {
-        t.names[i] = t.names[i + 1];
-        t.pointers[i] = t.pointers[i + 1];
+        q.names[i] = q.names[i + 1];
+        q.pointers[i] = q.pointers[i + 1];
         i += 1;
     }
-    t.count = i;
-    sweep(t, name)
+    q.count = i;
+    sweep(q, name)
 }
 
 // The entries of the name go, and their slots are free; the later entries move down.
-fn sweep(q: Queues, name: u64) -> Deleted
+fn sweep(mut q: Queues, name: u64) -> Deleted
     ensures { λ r. ⌜ r ≡ swept q name ⌝ }
 {
     let u = q.used;
     let n = slots::count(u);
-    let mut t = q;
     let mut i: usize = 0;
     let mut j: usize = 0;
     while i < n {
-        let o = t.owner[i];
-        let s = t.slot[i];
+        let o = q.owner[i];
+        let s = q.slot[i];
         if o == name {
-            let v = t.used;
-            t.used = slots::clear(v, wide(s));
+            let v = q.used;
+            q.used = slots::clear(v, wide(s));
         } else {
-            t.owner[j] = o;
-            t.slot[j] = s;
+            q.owner[j] = o;
+            q.slot[j] = s;
             j += 1;
         }
         i += 1;
     }
     Deleted {
-        queues: t,
+        queues: q,
         outcome: Deleting::Freed((n - j) as u32),
     }
 }

@@ -85,7 +85,7 @@ fn cut_to(at: usize, full: usize, room: usize) -> Reading
 }
 
 // A read once its place is known.
-fn read_place(q: Queues, name: u64, row: usize, place: usize, room: usize) -> Read
+fn read_place(mut q: Queues, name: u64, row: usize, place: usize, room: usize) -> Read
     requires { ⌜ row ≡ rowOf q name ⌝ }
     ensures { λ r. ⌜ r ≡ readIn q name place room ⌝ }
 {
@@ -110,10 +110,9 @@ fn read_place(q: Queues, name: u64, row: usize, place: usize, room: usize) -> Re
         };
     }
     let full = wide(q.len[s]);
-    let mut t = q;
-    t.pointers[row] = place as u8;
+    q.pointers[row] = place as u8;
     Read {
-        queues: t,
+        queues: q,
         outcome: cut_to(s * 64, full, room),
     }
 }

@@ -28,7 +28,13 @@ pub struct Rewritten {
 }
 
 // The item in the slot of the one at the place, from 1. The pointer is kept.
-pub fn rewrite(q: Queues, items: &mut [u8; 8192], name: u64, place: usize, item: &[u8]) -> Rewritten
+pub fn rewrite(
+    mut q: Queues,
+    items: &mut [u8; 8192],
+    name: u64,
+    place: usize,
+    item: &[u8],
+) -> Rewritten
     ensures exact { λ r. ⌜ lent r (now (items .exit)) ≡ rewriteIn q (now (items .entry)) name place (now (item .entry)) ⌝ }
     ensures model { λ r. ⌜ (soundQ q ≡ true → Did q (now (items .entry)) (r .queues) (now (items .exit)) (model.rewrite cabinet (queuesOf q (now (items .entry))) name place (now (item .entry))) (conditionOf (r .outcome)) 0 []) ⌝ }
 {
@@ -61,11 +67,10 @@ pub fn rewrite(q: Queues, items: &mut [u8; 8192], name: u64, place: usize, item:
             outcome: Rewriting::NoSuchItem,
         };
     }
-    let mut t = q;
-    t.len[s] = m as u8;
+    q.len[s] = m as u8;
     store(b, s * 64, item);
     Rewritten {
-        queues: t,
+        queues: q,
         outcome: Rewriting::Done,
     }
 }

@@ -49,11 +49,6 @@ numFrom-bound (y ∷ l) h =
     let r : numFrom 0 l < 256 ^ length l = numFrom-bound l (and-r (isByte y) (isBytes l) h) in
     rw (zero-mul 256, zero-add y, numFrom-high y l, pow-succ' 256 (length l)) (digits-lt b r)
 
--- general: with x before them
-pub numFrom-below : (x : ℕ) (l : List ℕ) → isBytes l ≡ true → numFrom x l < (x + 1) * 256 ^ length l
-numFrom-below x l h =
-    rw (numFrom-high x l, add-mul x 1 (256 ^ length l), one-mul (256 ^ length l)) (omega (arith, numFrom-bound l h))
-
 pub num-bound : (at n : ℕ) (r : List ℕ) → isBytes r ≡ true → num at n r < 256 ^ n
 num-bound at n r h =
     let p : length (take n (drop at r)) ≤ n = rw (length-take n (drop at r)) (min-le-left n (length (drop at r))) in
@@ -98,12 +93,6 @@ pub bytesOf-num : (l : List ℕ) → isBytes l ≡ true → bytesOf (length l) (
 bytesOf-num l h = bytesOf-numFrom 0 l h
 
 -- ---- the number at a place
-
-pub num-front : (a b : List ℕ) → num 0 (length a) (a ++ b) ≡ numFrom 0 a
-num-front a b = ap (numFrom 0) (take-append-seam a b)
-
-pub num-behind : (at n : ℕ) (a b : List ℕ) → num (length a + at) n (a ++ b) ≡ num at n b
-num-behind at n a b = ap (λ (l : List ℕ). numFrom 0 (take n l)) (drop-append-add a b at)
 
 -- one byte wider
 pub num-suc : (at n : ℕ) (r : List ℕ) → at + n < length r → num at (suc n) r ≡ num at n r * 256 + getD r (at + n) 0

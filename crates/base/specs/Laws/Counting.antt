@@ -96,12 +96,6 @@ within-all (x ∷ l) m h =
 pub within-append : (l k m : List ℕ) → within (l ++ k) m ≡ (within l m && within k m)
 within-append l k m = all-append (λ n. has n m) l k
 
-pub within-refl : (l : List ℕ) → within l l ≡ true
-within-refl l = within-all l l (λ n h. h)
-
-pub within-trans : (l m k : List ℕ) → within l m ≡ true → within m k ≡ true → within l k ≡ true
-within-trans l m k v w = within-all l k (λ n h. within-says m k w n (within-says l m v n h))
-
 -- what is in a part is in the whole
 pub within-left : (l m k : List ℕ) → within l m ≡ true → within l (m ++ k) ≡ true
 within-left l m k w = within-all l (m ++ k) (λ n h. has-more n m k (within-says l m w n h))

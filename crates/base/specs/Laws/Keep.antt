@@ -183,9 +183,6 @@ module _ {A : Type 0} (p q : A → Bool) where
         byTest (p x) (λ t. rw (i x t, t))
         (λ t. let r = any-kept-imp l (rw t at h) in byTest (q x) (λ u. rw (u, t) r) (λ u. rw u r))
 
-    pub all-kept-imp : (l : List A) → all q (keep p l) ≡ true
-    all-kept-imp l = all-imp (keep p l) (all-kept p l)
-
   -- ---- they are the same
   module _ (e : (x : A) → p x ≡ q x) where
     pub keep-same : (l : List A) → keep p l ≡ keep q l

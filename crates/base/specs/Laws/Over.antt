@@ -12,9 +12,6 @@ use Rattle.base.specs.Laws.Tests.{and-i}
 use Rattle.base.specs.Laws.Keep.{all-append, all-drop}
 
 module _ {A : Type 0} where
-  pub over-nil : (l : List A) → over [] l ≡ l
-  over-nil l = refl
-
   pub length-over : (ks l : List A) → length ks ≤ length l → length (over ks l) ≡ length l
   length-over ks l h = simp (length-append, length-drop) (omega arith)
 
@@ -40,10 +37,6 @@ module _ {A : Type 0} where
       ap (λ (m : ℕ). drop m (over ks l)) (sym e) ∙ drop-append-add ks (drop (length ks) l) (n - length ks)
       ∙ drop-drop (n - length ks) (length ks) l ∙ ap (λ (m : ℕ). drop m l) e
 
-  -- a longer one hides it
-  pub over-over : (ks js l : List A) → length js ≤ length ks → over ks (over js l) ≡ over ks l
-  over-over ks js l h = ap (λ (r : List A). ks ++ r) (over-drop js l (length ks) h)
-
   -- one more is written
   pub over-snoc : (ks l : List A) (v : A) → over (ks ++ (v ∷ [])) l ≡ ks ++ (v ∷ drop (suc (length ks)) l)
   over-snoc ks l v = rw (length-append ks (v ∷ []), add-one (length ks)) (append-snoc ks v (drop (suc (length ks)) l))
@@ -53,10 +46,6 @@ module _ {A : Type 0} where
       ap (λ (x : List A). set (ks ++ x) (length ks) v) (drop-cons l (length ks) v h)
       ∙ set-append-seam ks (getD l (length ks) v) (drop (suc (length ks)) l) v
       ∙ sym (over-snoc ks l v)
-
-  -- what stands there is written
-  pub over-next : (ks l : List A) (d : A) → length ks < length l → over (ks ++ (getD l (length ks) d ∷ [])) l ≡ over ks l
-  over-next ks l d h = over-snoc ks l (getD l (length ks) d) ∙ ap (λ (r : List A). ks ++ r) (sym (drop-cons l (length ks) d h))
 
   -- its own front is written
   pub over-self : (n : ℕ) (l : List A) → over (take n l) l ≡ l

@@ -52,9 +52,6 @@ module _ {A : Type 0} (l : List A) (n i : ℕ) where
     pub firstAt-end : min n (length l) ≤ i → firstAt p (drop i (take n l)) ≡ 0
     firstAt-end h = rw (left-end h)
 
-    pub first-end : (e : A) → min n (length l) ≤ i → first p e (drop i (take n l)) ≡ e
-    first-end e h = rw (left-end h)
-
     module _ (d : A) (h : i < n) (b : i < length l) where
       pub all-hit : p (getD l i d) ≡ true → all p (drop (i + 1) (take n l)) ≡ all p (drop i (take n l))
       all-hit t = rw (left-cons d h b, t)
@@ -73,12 +70,6 @@ module _ {A : Type 0} (l : List A) (n i : ℕ) where
 
       pub firstAt-miss : p (getD l i d) ≡ false → suc (firstAt p (drop (i + 1) (take n l))) ≡ firstAt p (drop i (take n l))
       firstAt-miss t = rw (left-cons d h b, t)
-
-      pub first-hit : (e : A) → p (getD l i d) ≡ true → first p e (drop i (take n l)) ≡ getD l i d
-      first-hit e t = rw (left-cons d h b, t)
-
-      pub first-miss : (e : A) → p (getD l i d) ≡ false → first p e (drop (i + 1) (take n l)) ≡ first p e (drop i (take n l))
-      first-miss e t = rw (left-cons d h b, t)
 
 -- ---- of numbers
 

@@ -77,9 +77,6 @@ module _ (l : List ℕ) (at : ℕ) where
   unfolding recordsFrom
   from-end h = ap listed (left-end 0 l at h)
 
-  pub filled-end : length l ≤ at → Filled l at
-  filled-end h = record { fills = left-end 0 l at h ∙ ap (good 0) (sym (from-end h)) }
-
   behind-good : (r : List ℕ) (x : Framed) (rs : List (List ℕ)) → behind r x ≡ good 0 rs → (x ≡ good 0 (listed x)) × (r ∷ listed x ≡ rs)
   behind-good r bad rs e = let z : _≡_ {A = ℕ} 0 1 = cc in absurd (omega arith)
   behind-good r (good v ss) rs e = ((cc), (cc))
@@ -93,9 +90,6 @@ module _ (l : List ℕ) (at : ℕ) where
     pub filled-record : at < length l → partAt l at ≡ Record (at + 2) (nextAt l at)
     filled-record h = part-record h (filled-whole h)
 
-    pub filled-not-bad : Bad ≡ partAt l at → ⊥
-    filled-not-bad q = let b = bad-told q in let g = filled-record (b .0) in let z : _≡_ {A = ℕ} 0 1 = cc in omega arith
-
     -- one record on
     pub filled-next : (start next : ℕ) → Record start next ≡ partAt l at → Onward l at start next
     unfolding recordsFrom
@@ -107,6 +101,3 @@ module _ (l : List ℕ) (at : ℕ) where
         let k : next - start ≡ num at 2 l = omega arith in
         let g = behind-good r (left 0 l (nextAt l at)) (recordsFrom l at) (sym on ∙ f .fills) in
         record { ahead = a; filled = rw (a .ends) (record { fills = g .0 }); cut = rw (k, a .begins, a .ends) (g .1) }
-
-    pub filled-here : at < length l → Onward l at (at + 2) (nextAt l at)
-    filled-here h = filled-next (at + 2) (nextAt l at) (sym (filled-record h))

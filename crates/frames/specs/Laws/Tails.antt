@@ -40,17 +40,6 @@ module _ (w : ℕ) (out e ys : List ℕ) (h : w + length e ≤ length out) (is :
   head-long : length (take w out ++ e) ≡ w + length e
   head-long = length-append (take w out) e ∙ ap (λ (k : ℕ). k + length e) (length-take-le w out (omega arith))
 
-  pub take-put-tail : take (w + length e) (putTail w out ys) ≡ take w out ++ e
-  take-put-tail = ap (take (w + length e)) put-tail ∙ take-at (take w out ++ e) (drop (w + length e) out) (w + length e) head-long
-
-  pub drop-put-tail : drop (w + length e) (putTail w out ys) ≡ drop (w + length e) out
-  drop-put-tail = ap (drop (w + length e)) put-tail ∙ drop-at (take w out ++ e) (drop (w + length e) out) (w + length e) head-long
-
-  pub length-put-tail : length (putTail w out ys) ≡ length out
-  length-put-tail =
-      ap length put-tail ∙ length-append (take w out ++ e) (drop (w + length e) out)
-      ∙ ap (λ (k : ℕ). k + length (drop (w + length e) out)) head-long ∙ rw length-drop (omega arith)
-
   -- where the buffer holds what was written before, over the buffer as it was lent
   pub over-put-tail : (es out₀ : List ℕ) → out ≡ over es out₀ → w ≡ length es → putTail w out ys ≡ over (es ++ e) out₀
   over-put-tail es out₀ o n =
@@ -65,6 +54,3 @@ module _ (w : ℕ) (out e ys : List ℕ) (h : w + length e ≤ length out) (is :
 module _ (w : ℕ) (out e ys : List ℕ) (r : ℕ) (h : w + length e ≤ length out) (q : written r ys ≡ writtenOver e (tailOf w out)) where
   pub tail-told : (r ≡ length e) × (ys ≡ over e (tailOf w out))
   tail-told = let n = tail-length w out in written-told e (tailOf w out) r ys (omega arith) q
-
-  pub tail-written : (r ≡ length e) × (putTail w out ys ≡ take w out ++ e ++ drop (w + length e) out)
-  tail-written = (tail-told .0, put-tail w out e ys h (tail-told .1))

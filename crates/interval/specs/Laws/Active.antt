@@ -1,19 +1,14 @@
 -- Who is an active task is what the model says, at any clock. Assumes nothing.
 use Prim.Native.Nat.{ℕ}
 use mathlib.Core.Path.{_≡_, sym, _∙_}
-use mathlib.Core.Bool.{Bool, _&&_}
+use mathlib.Core.Bool.{Bool}
 use Rattle.base.specs.Lists.{any}
 use Rattle.model.specs.Interval as model
-use Rattle.interval.specs.declared.Request.{Request}
 use Rattle.interval.specs.declared.Requests.{Requests}
 use Rattle.interval.specs.Table.{live}
 use Rattle.interval.specs.Stands.{intervalAt}
-use Rattle.interval.specs.Rows.{active, named}
-use Rattle.interval.specs.Active.{activeIn}
+use Rattle.interval.specs.Active.{task, activeIn}
 use Rattle.interval.specs.Laws.Standing.{task-at}
-
-abbrev pub task : ℕ → Request → Bool
-task n q = active q && named n q
 
 -- both clauses
 pub active-both : (t : Requests) (n : ℕ) (r : Bool) → r ≡ any (task n) (live t)

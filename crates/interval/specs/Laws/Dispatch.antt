@@ -21,11 +21,10 @@ use Rattle.interval.specs.declared.Requests.{Requests}
 use Rattle.interval.specs.declared.Phase.the-variants.{Active}
 use Rattle.interval.specs.declared.answers.Dispatch.the-variants.{Started, Nothing}
 use Rattle.interval.specs.declared.answers.Dispatched.{Dispatched}
-use Rattle.interval.specs.declared.dispatch.Picked.the-variants as picked
 use Rattle.interval.specs.Table.{live, inPhase}
 use Rattle.interval.specs.Stands.{requestAt, intervalAt, Means, soundR, Done}
 use Rattle.interval.specs.Rows.{expired, active, outRow, noRow, withRow}
-use Rattle.interval.specs.Dispatch.{dispatchGives, dispatchNumber, dispatchBytes, programOf, terminalOf, ready, passedBy, pickIn, dispatched, dispatchedRow, dispatchIn}
+use Rattle.interval.specs.Dispatch.{At, None, dispatchGives, dispatchNumber, dispatchBytes, programOf, terminalOf, ready, passedBy, pickIn, dispatched, dispatchedRow, dispatchIn}
 use Rattle.interval.specs.Laws.Ties.{Small, small, finish}
 use Rattle.interval.specs.Laws.Standing.{active-at, expired-at, turned, turned-small, read-row}
 
@@ -102,7 +101,7 @@ module _ (c : ℕ) (t : Requests) where
   unfolding dispatchIn pickIn
   dispatched-as h = rw h (ap (λ (q : Request). dispatchedRow t j q (passedBy j l)) (read-row t j (firstAt-lt (ready l) l h)))
 
-  nothing-as : any (ready l) l ≡ false → dispatchIn t ≡ dispatched t (picked.Nothing (length (keep expired l)))
+  nothing-as : any (ready l) l ≡ false → dispatchIn t ≡ dispatched t (None (length (keep expired l)))
   unfolding dispatchIn pickIn
   nothing-as h = rw h
 
@@ -125,7 +124,7 @@ module _ (c : ℕ) (t : Requests) where
           state = x;
         }) (turned c t m s j false (firstAt-lt (ready l) l h)))
 
-    none-starts : any (ready l) l ≡ false → Told (dispatched t (picked.Nothing (length (keep expired l))))
+    none-starts : any (ready l) l ≡ false → Told (dispatched t (None (length (keep expired l))))
     unfolding model.dispatch
     none-starts h = rw (any-at, line-at, h)
 
@@ -142,7 +141,7 @@ module _ (c : ℕ) (t : Requests) where
         byTest (any (ready l) l)
         (λ h. rw (dispatched-as h)
         (good (dispatchedRow t j there (passedBy j l)) (starts h) m (turned-small t (small t s) j false (firstAt-lt (ready l) l h))))
-        (λ h. rw (nothing-as h) (good (dispatched t (picked.Nothing (length (keep expired l)))) (none-starts h) m (small t s)))
+        (λ h. rw (nothing-as h) (good (dispatched t (None (length (keep expired l)))) (none-starts h) m (small t s)))
 
 -- ---- both clauses
 
@@ -151,22 +150,22 @@ pub dispatch-both : (t : Requests) (r : Dispatched) → r ≡ dispatchIn t
 dispatch-both t r e = (e, λ c m s. rw e (dispatch-done c t m s))
 
 -- the picked row is there
-pub pick-below : (t : Requests) (i k : ℕ) → pickIn (live t) ≡ picked.At i k → i < length (live t)
+pub pick-below : (t : Requests) (i k : ℕ) → pickIn (live t) ≡ At i k → i < length (live t)
 unfolding pickIn
 pick-below t i k e =
     byTest (any (ready (live t)) (live t))
     (λ h.
-    let g : picked.At (firstAt (ready (live t)) (live t)) (passedBy (firstAt (ready (live t)) (live t)) (live t)) ≡ picked.At i k = rw h at e in
+    let g : At (firstAt (ready (live t)) (live t)) (passedBy (firstAt (ready (live t)) (live t)) (live t)) ≡ At i k = rw h at e in
     let same : firstAt (ready (live t)) (live t) ≡ i = cc in
     omega (arith, firstAt-lt (ready (live t)) (live t) h))
     (λ h.
-    let g : picked.Nothing (length (keep expired (live t))) ≡ picked.At i k = rw h at e in
+    let g : None (length (keep expired (live t))) ≡ At i k = rw h at e in
     let z : _≡_ {A = ℕ} 0 1 = cc in
     absurd (omega arith))
 
 -- the code's two ends
 module _ (t : Requests) where
-  pub dispatch-hit : (i k : ℕ) → pickIn (live t) ≡ picked.At i k → (p : Request) → p ≡ inPhase (Active false) (getD (t .rows) i outRow)
+  pub dispatch-hit : (i k : ℕ) → pickIn (live t) ≡ At i k → (p : Request) → p ≡ inPhase (Active false) (getD (t .rows) i outRow)
       → record { requests = withRow t i p; outcome = Started (getD (t .rows) i outRow .name) (getD (t .rows) i outRow .program) (getD (t .rows) i outRow .terminal) k } ≡ dispatchIn t
   unfolding dispatchIn
   dispatch-hit i k e p ep =
@@ -174,6 +173,6 @@ module _ (t : Requests) where
       ap (λ (x : Request). record { requests = withRow t i x; outcome = Started (q .name) (q .program) (q .terminal) k }) ep
       ∙ sym (ap (dispatched t) e)
 
-  pub dispatch-none : (k : ℕ) → pickIn (live t) ≡ picked.Nothing k → record { requests = t; outcome = Nothing k } ≡ dispatchIn t
+  pub dispatch-none : (k : ℕ) → pickIn (live t) ≡ None k → record { requests = t; outcome = Nothing k } ≡ dispatchIn t
   unfolding dispatchIn
   dispatch-none k e = sym (ap (dispatched t) e)

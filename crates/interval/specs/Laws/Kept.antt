@@ -25,8 +25,6 @@ use Rattle.interval.specs.declared.Requests.{Requests}
 use Rattle.interval.specs.declared.advance.Advanced.{Advanced}
 use Rattle.interval.specs.declared.answers.Cancelled.{Cancelled}
 use Rattle.interval.specs.declared.answers.Retrieved.{Retrieved}
-use Rattle.interval.specs.declared.dispatch.Picked.{Picked}
-use Rattle.interval.specs.declared.dispatch.Picked.the-variants as picked
 use Rattle.interval.specs.Circle.{after}
 use Rattle.interval.specs.Laws.Circle.{after-lt}
 use Rattle.interval.specs.Table.{programsOf, terminalsOf, live, withLive, inPhase}
@@ -35,7 +33,7 @@ use Rattle.interval.specs.Typed.{word, typedPhase, typedRest, typedRow, 
 use Rattle.interval.specs.Advance.{dueIn, noLater, newly, lapse, moved, advanceOf}
 use Rattle.interval.specs.Cancel.{cancelIn}
 use Rattle.interval.specs.Define as define
-use Rattle.interval.specs.Dispatch.{pickIn, dispatched, dispatchIn}
+use Rattle.interval.specs.Dispatch.{Picked, At, None, pickIn, dispatched, dispatchIn}
 use Rattle.interval.specs.Fresh.{freshAt}
 use Rattle.interval.specs.Remove.{removeIn}
 use Rattle.interval.specs.Retrieve.{hasOwn, serves, taskOf, retrieveIn}
@@ -197,11 +195,11 @@ module _ (t : Requests) (y : Typed t) where
   unfolding dispatchIn
   dispatch-typed = by (pickIn (live t)) refl where
     by : (p : Picked) → pickIn (live t) ≡ p → Typed (dispatched t p .requests)
-    by (picked.At i k) e =
+    by (At i k) e =
         row-typed i (inPhase (Active false) (getD (t .rows) i outRow))
         (in-phase (Active false) (getD (t .rows) i outRow) refl
         (all-getD typedRow (t .rows) i outRow (y .eachRow) (omega (arith, pick-below t i k e, live-few, y .rows))))
-    by (picked.Nothing k) e = y
+    by (None k) e = y
 
   pub start-typed : (a : model.Asked) → inRange (Start a) ≡ true → Typed (start.startIn t a .requests)
   unfolding start.startIn

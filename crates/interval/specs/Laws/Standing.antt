@@ -7,15 +7,15 @@ use native.Mathlib.Omega.{arith}
 use lib.Dec.{eqb}
 use lib.ListN.{length, take, drop, getD, set, length-take}
 use lib.Seq.{take-set-lt, getD-take}
-use borrow.Author.Tests.{lt-ltb, le-ltb}
 use Rattle.base.specs.Choice.{pick}
 use Rattle.base.specs.Lists.{any, all, firstAt, once, cutAt}
 use Rattle.base.specs.Laws.Tests.{and-i, pick-map}
-use Rattle.base.specs.Laws.Keep.{all-append, all-take, all-drop, all-set, all-getD, firstAt-any}
+use Rattle.base.specs.Laws.Keep.{all-append, all-take, all-drop, all-set, all-getD}
 use Rattle.base.specs.Laws.Maps.{any-map, map-swap}
 use Rattle.base.specs.Laws.Over.{take-over}
 use Rattle.base.specs.Laws.Cut.{length-cut}
 use Rattle.base.specs.Laws.Index.{set-by-name}
+use Rattle.base.specs.Laws.Seeking.{there, nowhere}
 use Rattle.model.specs.Limits.{cabinet}
 use Rattle.model.specs.Interval as model
 use Rattle.model.specs.Laws.SoundInterval.{view}
@@ -135,10 +135,10 @@ read-row t i h = sym (getD-take (t .count) (t .rows) i outRow (omega (arith, len
 
 module _ (p : Request → Bool) (t : Requests) (long : length (t .rows) ≡ 32) (i m : ℕ) (ei : i ≡ firstAt p (live t)) (em : m ≡ min (t .count) 32) where
   pub found : i < m → any p (live t) ≡ true
-  found h = firstAt-any p (live t) ∙ lt-ltb (firstAt p (live t)) (length (live t)) (omega (arith, length-take (t .count) (t .rows)))
+  found h = there p (t .rows) (t .count) 32 m em long i ei h
 
   pub missing : m ≤ i → any p (live t) ≡ false
-  missing h = firstAt-any p (live t) ∙ le-ltb (firstAt p (live t)) (length (live t)) (omega (arith, length-take (t .count) (t .rows)))
+  missing h = nowhere p (t .rows) (t .count) 32 m em long i ei h
 
 pub and-no : (b : Bool) → (b && false) ≡ false
 and-no true = refl

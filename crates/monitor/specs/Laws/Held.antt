@@ -21,7 +21,7 @@ use Rattle.monitor.specs.declared.Tables.{Tables}
 use Rattle.monitor.specs.declared.answers.Answer.{Answer}
 use Rattle.monitor.specs.declared.answers.Said.{Said}
 use Rattle.monitor.specs.declared.lanes.Lane.{Lane}
-use Rattle.monitor.specs.declared.lanes.Lane.the-variants.{Malformed, Stranger, Wrong, Ticks, Requests, Finish, Store, Settings}
+use Rattle.monitor.specs.declared.lanes.Lane.the-variants.{Malformed, Stranger, Wrong, Requests, Finish, Store, Settings}
 use Rattle.monitor.specs.declared.lanes.Verdict.{Verdict}
 use Rattle.monitor.specs.declared.requests.Asked.{Asked}
 use Rattle.monitor.specs.declared.settings.Made.{Made}
@@ -32,7 +32,7 @@ use Rattle.monitor.specs.Requests.{asks, askOf}
 use Rattle.monitor.specs.Settings.{sets, settingTurn}
 use Rattle.monitor.specs.Store as store
 use Rattle.monitor.specs.Table.{withoutIn, storeOf}
-use Rattle.monitor.specs.Lanes.{laneOf, wordOf, laned, decidesIn, settingFor, verdictOf, judged, laneStep}
+use Rattle.monitor.specs.Lanes.{laneOf, forRequests, forStore, forSettings, wordOf, laned, decidesIn, settingFor, verdictOf, judged, laneStep}
 use Rattle.monitor.specs.Step.{Lent, lent, turned, allowedIn, stepOn}
 use Rattle.monitor.specs.Laws.Lanes.{by-lanes}
 
@@ -53,61 +53,84 @@ heldOf o = held (o .state .parts .requests) (o .state .parts .queues) (o .state 
 abbrev pub parts : Interval → Queues → Tasks → Parts
 parts q s h = record { requests = q; queues = s; tasks = h }
 
-module _ {q q′ : Interval} {s s′ : Queues} {h h′ : Tasks} {b b′ : List ℕ} {w w′ : Said} where
-  held-same : q ≡ q′ → s ≡ s′ → h ≡ h′ → b ≡ b′ → w ≡ w′ → held q s h b w ≡ held q′ s′ h′ b′ w′
-  held-same eq es eh eb ew = rw (eq, es, eh, eb, ew)
+-- ---- the part of the lane: each part in turn is asked, or stays as it is
 
--- ---- the part of each lane
+abbrev pub askedOf : Interval → Said → Asked
+askedOf q w = record { requests = q; said = w }
 
--- a lane by another name
-as-lane : (t : Tables) (r : List ℕ) {l m : Lane} {x : Held} → l ≡ m → x ≡ heldOf (laned m t r) → x ≡ heldOf (laned l t r)
-as-lane t r e f = f ∙ ap (λ (m : Lane). heldOf (laned m t r)) (sym e)
+abbrev pub storedOf : Queues → Said → List ℕ → store.Lent
+storedOf s w b = store.lent (record { queues = s; said = w }) b
 
-module _ (t : Tables) (r : List ℕ) (l : Lane) {q : Interval} {s : Queues} {h : Tasks} {b : List ℕ} {w : Said} where
-  module _ (es : s ≡ t .parts .queues) (eb : b ≡ t .items) where
-    pub of-ticks : (x : Said) → l ≡ Ticks → x ≡ saying 0 (t .parts .requests .register) [] → q ≡ t .parts .requests → h ≡ t .parts .tasks → w ≡ x
-        → held q s h b w ≡ heldOf (laned l t r)
-    of-ticks x e f eq eh ew = as-lane t r e (held-same eq es eh eb (ew ∙ f))
+abbrev pub madeOf : Tasks → Said → Made
+madeOf h w = record { tasks = h; said = w }
 
-    pub of-requests : (k : ℕ) (a : Asked) → l ≡ Requests → k ≡ command r → a ≡ asks (interval.turn (t .parts .requests) (askOf k r))
-        → q ≡ a .requests → h ≡ t .parts .tasks → w ≡ a .said → held q s h b w ≡ heldOf (laned l t r)
-    of-requests k a e ek ea eq eh ew =
-        let f : a ≡ asks (interval.turn (t .parts .requests) (askOf (command r) r)) =
-        ea ∙ ap (λ (n : ℕ). asks (interval.turn (t .parts .requests) (askOf n r))) ek in
-        as-lane t r e (held-same (eq ∙ ap (λ (x : Asked). x .requests) f) es eh eb (ew ∙ ap (λ (x : Asked). x .said) f))
+abbrev pub askedBy : Lane → Tables → List ℕ → Asked
+askedBy l t r =
+    pick (forRequests l) (asks (interval.turn (t .parts .requests) (askOf (command r) r)))
+    (askedOf (t .parts .requests) (saying (wordOf l) 0 []))
 
-    pub of-settings : (k : ℕ) (a : Made) → l ≡ Settings → k ≡ command r → a ≡ sets (settingTurn (t .parts .tasks) k r)
-        → q ≡ t .parts .requests → h ≡ a .tasks → w ≡ a .said → held q s h b w ≡ heldOf (laned l t r)
-    of-settings k a e ek ea eq eh ew =
-        let f : a ≡ sets (settingTurn (t .parts .tasks) (command r) r) = ea ∙ ap (λ (n : ℕ). sets (settingTurn (t .parts .tasks) n r)) ek in
-        as-lane t r e (held-same eq es (eh ∙ ap (λ (x : Made). x .tasks) f) eb (ew ∙ ap (λ (x : Made). x .said) f))
+abbrev pub storedBy : Lane → Tables → List ℕ → Said → store.Lent
+storedBy l t r w =
+    pick (forStore l) (store.stores (queues.turn (storeOf t) (store.storeAsk (command r) r)))
+    (storedOf (t .parts .queues) w (t .items))
 
-    -- no part is asked
-    module _ (x : Said) (ex : x ≡ saying (wordOf l) 0 []) (eq : q ≡ t .parts .requests) (eh : h ≡ t .parts .tasks) (ew : w ≡ x) where
-      as-word : (m : Lane) → l ≡ m → heldOf (laned m t r) ≡ held (t .parts .requests) (t .parts .queues) (t .parts .tasks) (t .items) (saying (wordOf m) 0 [])
-          → held q s h b w ≡ heldOf (laned l t r)
-      as-word m e f = as-lane t r e (held-same eq es eh eb (ew ∙ ex ∙ ap (λ (y : Lane). saying (wordOf y) 0 []) e) ∙ sym f)
+abbrev pub madeBy : Lane → Tables → List ℕ → Said → Made
+madeBy l t r w = pick (forSettings l) (sets (settingTurn (t .parts .tasks) (command r) r)) (madeOf (t .parts .tasks) w)
 
-      pub of-malformed : l ≡ Malformed → held q s h b w ≡ heldOf (laned l t r)
-      of-malformed e = as-word Malformed e refl
+abbrev pub heldIn : Asked → store.Lent → Made → Held
+heldIn a s m = held (a .requests) (s .stored .queues) (m .tasks) (s .items) (m .said)
 
-      pub of-stranger : l ≡ Stranger → held q s h b w ≡ heldOf (laned l t r)
-      of-stranger e = as-word Stranger e refl
+module _ (l : Lane) (t : Tables) (r : List ℕ) where
+  module _ {q : Interval} {w : Said} where
+    pub asked-yes : (k : ℕ) (a : Asked) → forRequests l ≡ true → k ≡ command r → a ≡ asks (interval.turn (t .parts .requests) (askOf k r))
+        → q ≡ a .requests → w ≡ a .said → askedOf q w ≡ askedBy l t r
+    asked-yes k a e ek ea eq ew = rw (eq, ew, ea, ek, e)
 
-      pub of-wrong : l ≡ Wrong → held q s h b w ≡ heldOf (laned l t r)
-      of-wrong e = as-word Wrong e refl
+    -- ask ticks says what the register holds, and changes nothing
+    pub asked-ticks : (x : Said) → forRequests l ≡ true → 4 ≡ command r → x ≡ saying 0 (t .parts .requests .register) []
+        → q ≡ t .parts .requests → w ≡ x → askedOf q w ≡ askedBy l t r
+    unfolding askOf
+    asked-ticks x e ek ex eq ew = rw (eq, ew, ex, sym ek, e)
 
-      pub of-finish : l ≡ Finish → held q s h b w ≡ heldOf (laned l t r)
-      of-finish e = as-word Finish e refl
+    pub asked-not : forRequests l ≡ false → q ≡ t .parts .requests → w ≡ saying (wordOf l) 0 [] → askedOf q w ≡ askedBy l t r
+    asked-not e eq ew = rw (eq, ew, e)
 
-  pub of-store : (k : ℕ) (a : Stored) (c : List ℕ) → l ≡ Store → k ≡ command r → store.lent a c ≡ store.stores (queues.turn (storeOf t) (store.storeAsk k r))
-      → q ≡ t .parts .requests → s ≡ a .queues → h ≡ t .parts .tasks → b ≡ c → w ≡ a .said → held q s h b w ≡ heldOf (laned l t r)
-  of-store k a c e ek ea eq es eh eb ew =
-      let f : store.lent a c ≡ store.stores (queues.turn (storeOf t) (store.storeAsk (command r) r)) =
-      ea ∙ ap (λ (n : ℕ). store.stores (queues.turn (storeOf t) (store.storeAsk n r))) ek in
-      as-lane t r e
-      (held-same eq (es ∙ ap (λ (x : store.Lent). x .stored .queues) f) eh (eb ∙ ap (λ (x : store.Lent). x .items) f)
-      (ew ∙ ap (λ (x : store.Lent). x .stored .said) f))
+  module _ (v : Said) {s : Queues} {b : List ℕ} {w : Said} where
+    pub stored-yes : (k : ℕ) (a : Stored) (c : List ℕ) → forStore l ≡ true → k ≡ command r → store.lent a c ≡ store.stores (queues.turn (storeOf t) (store.storeAsk k r))
+        → s ≡ a .queues → b ≡ c → w ≡ a .said → storedOf s w b ≡ storedBy l t r v
+    stored-yes k a c e ek ea es eb ew = rw (es, eb, ew, ea, ek, e)
+
+    pub stored-not : forStore l ≡ false → s ≡ t .parts .queues → b ≡ t .items → w ≡ v → storedOf s w b ≡ storedBy l t r v
+    stored-not e es eb ew = rw (es, eb, ew, e)
+
+  module _ (v : Said) {h : Tasks} {w : Said} where
+    pub made-yes : (k : ℕ) (a : Made) → forSettings l ≡ true → k ≡ command r → a ≡ sets (settingTurn (t .parts .tasks) k r)
+        → h ≡ a .tasks → w ≡ a .said → madeOf h w ≡ madeBy l t r v
+    made-yes k a e ek ea eh ew = rw (eh, ew, ea, ek, e)
+
+    pub made-not : forSettings l ≡ false → h ≡ t .parts .tasks → w ≡ v → madeOf h w ≡ madeBy l t r v
+    made-not e eh ew = rw (eh, ew, e)
+
+-- and that is what the lane comes to
+in-turn : (l : Lane) (t : Tables) (r : List ℕ) →
+    let a = askedBy l t r in
+    let s = storedBy l t r (a .said) in
+    heldIn a s (madeBy l t r (s .stored .said)) ≡ heldOf (laned l t r)
+in-turn Malformed t r = refl
+in-turn Stranger t r = refl
+in-turn Wrong t r = refl
+in-turn Requests t r = refl
+in-turn Finish t r = refl
+in-turn Store t r = refl
+in-turn Settings t r = refl
+
+pub held-lane : (l : Lane) (t : Tables) (r : List ℕ) (a : Asked) (s : store.Lent) (m : Made)
+    → a ≡ askedBy l t r → s ≡ storedBy l t r (a .said) → m ≡ madeBy l t r (s .stored .said) → heldIn a s m ≡ heldOf (laned l t r)
+held-lane l t r a s m ea es em =
+    ap (heldIn a s) em
+    ∙ ap (λ (x : store.Lent). heldIn a x (madeBy l t r (x .stored .said))) es
+    ∙ ap (λ (x : Asked). let y = storedBy l t r (x .said) in heldIn x y (madeBy l t r (y .stored .said))) ea
+    ∙ in-turn l t r
 
 -- ---- the handlers
 

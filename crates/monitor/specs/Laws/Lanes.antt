@@ -4,7 +4,6 @@ use mathlib.Core.Bool.{Bool, true, false, _||_}
 use mathlib.Core.List.{List}
 use Prim.Native.Nat.{ℕ}
 use lib.Dec.{eqb, leb}
-use borrow.Author.Tests.{eqb-true}
 use Rattle.base.specs.Choice.{pick}
 use Rattle.base.specs.Bytes.{blank}
 use Rattle.base.specs.Laws.Tests.{byTest}
@@ -15,8 +14,7 @@ use Rattle.handlers.specs.declared.Setting.{Setting}
 use Rattle.handlers.specs.declared.Setting.the-variants.{Unset, Ignore, Label}
 use Rattle.monitor.specs.declared.Tables.{Tables}
 use Rattle.monitor.specs.declared.lanes.Lane.{Lane}
-use Rattle.monitor.specs.declared.lanes.Lane.the-variants.{Malformed, Stranger, Wrong, Ticks, Requests, Finish, Store, Settings}
-use Rattle.monitor.specs.Requests.{askOf}
+use Rattle.monitor.specs.declared.lanes.Lane.the-variants.{Malformed, Stranger, Wrong, Requests, Finish, Store, Settings}
 use Rattle.monitor.specs.Table.{withoutTask}
 use Rattle.monitor.specs.Lanes.{commandLane, laneOf, laned, heardIn, finishesIn, settingFor, verdictOf, judged, laneStep}
 use Rattle.monitor.specs.Step.{decidedIn, settleIn, refusedIn, allowedIn, deed, obeyedIn, stepOn}
@@ -60,10 +58,6 @@ module _ (t : Tables) (r : List ℕ) where
   unfolding laneStep
   wrong = settled Wrong (issuer r) (fault t 10) refl refl
 
-  ticks : command r ≡ 4 → settleIn (issuer r) (deed (command r) t r) ≡ laneStep (commandLane (command r)) (issuer r) t r
-  unfolding deed commandLane laneStep askOf
-  ticks e = rw e (settled Ticks (issuer r) (laned Ticks t r) refl refl)
-
   finished : settleIn (issuer r) (done (withoutTask t (issuer r)) 0) ≡ laneStep Finish (issuer r) t r
   unfolding settleIn laneStep
   finished = refl
@@ -72,14 +66,12 @@ module _ (t : Tables) (r : List ℕ) where
   heard : settleIn (issuer r) (deed (command r) t r) ≡ laneStep (commandLane (command r)) (issuer r) t r
   unfolding deed commandLane laneStep
   heard =
-      byTest (eqb (command r) 4) (λ e. ticks (eqb-true (command r) 4 e))
+      byTest (leb (command r) 8) (λ e. rw e (settled Requests (issuer r) (laned Requests t r) refl refl))
       (λ e.
-      byTest (leb (command r) 8) (λ f. rw (e, f) (settled Requests (issuer r) (laned Requests t r) refl refl))
+      byTest (eqb (command r) 9) (λ f. rw (e, f) finished)
       (λ f.
-      byTest (eqb (command r) 9) (λ g. rw (e, f, g) finished)
-      (λ g.
-      byTest (leb (command r) 14) (λ h. rw (e, f, g, h) (settled Store (issuer r) (laned Store t r) refl refl))
-      (λ h. rw (e, f, g, h) (settled Settings (issuer r) (laned Settings t r) refl refl)))))
+      byTest (leb (command r) 14) (λ g. rw (e, f, g) (settled Store (issuer r) (laned Store t r) refl refl))
+      (λ g. rw (e, f, g) (settled Settings (issuer r) (laned Settings t r) refl refl))))
 
   pub by-lanes : stepOn t r ≡ laneStep (laneOf (allowedIn (t .parts) r) (issuer r) r) (issuer r) t r
   unfolding stepOn laneOf obeyedIn

@@ -1,24 +1,16 @@
 -- `rows::find` meets its contract: the rows passed do not have the name. Assumes nothing.
-use mathlib.Core.Path.{_≡_, refl, sym, ap₂, _∙_}
-use Prim.Native.Nat.{_+_, _-_, _≤_, min}
-use lib.ListN.{length, drop}
+use mathlib.Core.Path.{ap₂, _∙_}
+use Prim.Native.Nat.{_-_}
 use borrow.Author.Tests.{eq-eqb, ne-eqb}
-use Rattle.base.specs.Lists.{first, firstAt}
-use Rattle.base.specs.Laws.Scans.{firstAt-hit, firstAt-miss, firstAt-end, first-hit, first-miss, first-end}
-use Rattle.handlers.specs.declared.Tasks.{Tasks}
-use Rattle.handlers.specs.Table.{live}
-use Rattle.handlers.specs.Rows.{named, outRow, unsetRow, placeIn, taskIn}
+use Rattle.base.specs.Laws.Seeking.{Sought, seeks-start, seeks-on, seeks-hit, seeks-end, first-there, first-nowhere}
+use Rattle.handlers.specs.Rows.{named, outRow, unsetRow}
 use Rattle.handlers.proofs.Typed.{unmapped, found}
 use borrow.Author.Needs.{needs}
-use native.Mathlib.Omega.{arith}
 use Rattle.handlers.proofs.rows.find.Statement.{statement}
 use Rattle.handlers.proofs.rows.find.Tie as tie
 
 abbrev Inv-loop : tie.InvT-loop
-Inv-loop name t m i₀ i =
-    (i ≤ m) × (m ≡ min (t .count) 16) × (length (t .rows) ≡ 16)
-    × (placeIn t name ≡ i + firstAt (named name) (drop i (live t)))
-    × (taskIn t name ≡ first (named name) (unsetRow name) (drop i (live t)))
+Inv-loop name t m i₀ i = Sought (named name) (t .rows) (t .count) 16 m i
 
 abbrev μ-loop : tie.MeasureT-loop
 μ-loop name t m i₀ i = m - i
@@ -27,7 +19,7 @@ least-requires : tie.Need-least-requires Inv-loop μ-loop
 least-requires c κs = search needs
 
 loop-holds : tie.Need-loop-holds Inv-loop μ-loop
-loop-holds c = (omega arith, c .least .ensures, search (needs, unmapped), omega arith, refl)
+loop-holds c = seeks-start _ _ _ _ _ (c .least .ensures) (search (needs, unmapped))
 
 mul-q : tie.Need-mul-q Inv-loop μ-loop
 mul-q c = search needs
@@ -37,14 +29,11 @@ element-copy-out-q c = search needs
 
 returns : tie.Need-returns Inv-loop μ-loop
 returns c =
-    let l = c .before .before .before .before .loop in
-    let a = c .before .before .before .before .before .before .args in
-    let t : Tasks = a .t1 in
-    let e = firstAt-hit (t .rows) (t .count) (l .i) (named (a .name)) outRow (omega arith) (omega arith) (eq-eqb _ _ (c .if1 .taken)) in
-    let f = first-hit (t .rows) (t .count) (l .i) (named (a .name)) outRow (omega arith) (omega arith) (unsetRow (a .name)) (eq-eqb _ _ (c .if1 .taken)) in
-    let v = l .inv .3 in
-    let p : l .i ≡ placeIn t (a .name) = omega arith in
-    ap₂ found p (sym (l .inv .4 ∙ f))
+    let k = c .before .before .before in
+    let l = k .before .loop in
+    let n = k .before .before .before .args .name in
+    let at = seeks-hit (l .inv) (k .loop-test .taken) outRow (eq-eqb _ _ (c .if1 .taken)) in
+    ap₂ found at (first-there (l .inv) at (unsetRow n) outRow (k .loop-test .taken))
 
 add-i : tie.Need-add-i Inv-loop μ-loop
 add-i c = search needs
@@ -54,26 +43,19 @@ loop-less c = search needs
 
 loop-again : tie.Need-loop-again Inv-loop μ-loop
 loop-again c =
-    let l = c .before .before .before .before .loop in
-    let a = c .before .before .before .before .before .before .args in
-    let t : Tasks = a .t1 in
-    let e = firstAt-miss (t .rows) (t .count) (l .i) (named (a .name)) outRow (omega arith) (omega arith) (ne-eqb _ _ (c .if1 .left)) in
-    let f = first-miss (t .rows) (t .count) (l .i) (named (a .name)) outRow (omega arith) (omega arith) (unsetRow (a .name)) (ne-eqb _ _ (c .if1 .left)) in
-    (omega arith, l .inv .1, l .inv .2, omega arith, l .inv .4 ∙ sym f)
+    let k = c .before .before .before in
+    seeks-on (k .before .loop .inv) (k .loop-test .taken) outRow (ne-eqb _ _ (c .if1 .left))
 
 unset-row-requires : tie.Need-unset-row-requires Inv-loop μ-loop
 unset-row-requires c κs = search needs
 
 returns-2 : tie.Need-returns-2 Inv-loop μ-loop
 returns-2 c =
-    let l = c .before .before .loop in
-    let a = c .before .before .before .before .args in
-    let t : Tasks = a .t1 in
-    let e = firstAt-end (t .rows) (t .count) (l .i) (named (a .name)) (omega arith) in
-    let f = first-end (t .rows) (t .count) (l .i) (named (a .name)) (unsetRow (a .name)) (omega arith) in
-    let v = l .inv .3 in
-    let p : l .i ≡ placeIn t (a .name) = omega arith in
-    ap₂ found p (c .unset-row .ensures ∙ sym (l .inv .4 ∙ f))
+    let k = c .before in
+    let l = k .before .loop in
+    let n = k .before .before .before .args .name in
+    let at = seeks-end (l .inv) (k .loop-test .left) in
+    ap₂ found at (c .unset-row .ensures ∙ first-nowhere (l .inv) at (unsetRow n) (k .loop-test .left))
 
 pub find-spec : {M : Type 1} → statement M
 find-spec =

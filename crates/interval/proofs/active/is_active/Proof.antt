@@ -1,18 +1,10 @@
 -- `active::is_active` meets its contract: the rows passed are not active, or not of that name. Assumes nothing.
-use mathlib.Core.Path.{sym, ap, _∙_}
-use mathlib.Core.Bool.{Bool, true, false, _&&_}
-use mathlib.Core.Logic.{⊎-elim}
+use mathlib.Core.Path.{sym, _∙_}
+use mathlib.Core.Bool.{true, false}
 use Prim.Native.Nat.{_-_}
-use lib.Dec.{eqb}
-use lib.ListN.{getD}
-use borrow.Author.Tests.{eq-eqb, ne-eqb}
-use Rattle.base.specs.Laws.Tests.{and-i}
-use Rattle.interval.specs.declared.Request.{Request}
-use Rattle.interval.specs.declared.Requests.{Requests}
-use Rattle.interval.specs.Rows.{active, outRow}
 use Rattle.interval.specs.Laws.Typed.{unmapped}
-use Rattle.interval.specs.Laws.Standing.{and-no}
-use Rattle.interval.specs.Laws.Active.{task, active-both}
+use Rattle.interval.specs.Active.{task}
+use Rattle.interval.specs.Laws.Active.{active-both}
 use Rattle.interval.proofs.Seeks.{Sought, seeks-on, seeks-some, seeks-none}
 use borrow.Author.Needs.{needs}
 use native.Mathlib.Omega.{arith}
@@ -37,16 +29,16 @@ mul-q c = search needs
 element-copy-out-q : tie.Need-element-copy-out-q Inv-loop μ-loop
 element-copy-out-q c = search needs
 
-active-requires : tie.Need-active-requires Inv-loop μ-loop
-active-requires c κs = search needs
+is-task-requires : tie.Need-is-task-requires Inv-loop μ-loop
+is-task-requires c κs = search needs
 
 returns : tie.Need-returns Inv-loop μ-loop
 returns c =
-    let k = c .before .before .before in
+    let k = c .before in
     let l = k .before .before .before .loop in
     let a = k .before .before .before .before .before .args in
-    let e = and-i (sym (c .before .active .ensures) ∙ c .if2 .taken) (eq-eqb _ _ (c .before .before .if1 .taken)) in
-    active-both (a .t1) (a .name) true (sym (seeks-some (task (a .name)) (a .t1) _ (l .i) (l .inv) (omega arith) e))
+    active-both (a .t1) (a .name) true
+    (sym (seeks-some (task (a .name)) (a .t1) _ (l .i) (l .inv) (omega arith) (sym (k .is-task .ensures) ∙ c .if1 .taken)))
 
 add-i : tie.Need-add-i Inv-loop μ-loop
 add-i c = search needs
@@ -59,12 +51,7 @@ loop-again c =
     let k = c .before in
     let l = k .before .before .before .loop in
     let a = k .before .before .before .before .before .args in
-    let t : Requests = a .t1 in
-    let q : Request = getD (t .rows) (l .i) outRow in
-    let on = seeks-on (task (a .name)) t _ (l .i) (l .inv) (omega arith) in
-    ⊎-elim (λ w. on (ap (λ (b : Bool). b && eqb (q .name) (a .name)) (sym (w .1 .ensures) ∙ w .2 .left)))
-    (λ w. on (ap (λ (b : Bool). active q && b) (ne-eqb _ _ (w .left)) ∙ and-no (active q)))
-    (c .if1 .came)
+    seeks-on (task (a .name)) (a .t1) _ (l .i) (l .inv) (omega arith) (sym (k .is-task .ensures) ∙ c .if1 .left)
 
 returns-2 : tie.Need-returns-2 Inv-loop μ-loop
 returns-2 c =
@@ -82,7 +69,7 @@ is-active-spec =
     loop-holds
     mul-q
     element-copy-out-q
-    active-requires
+    is-task-requires
     returns
     add-i
     loop-less

@@ -1,47 +1,99 @@
--- `remove::remove` meets its contract. Assumes nothing.
-use mathlib.Core.Path.{_≡_}
-use lib.ListN.{length, length-take}
-use Rattle.interval.specs.Rows.{named}
-use Rattle.interval.specs.Laws.Typed.{unmapped}
-use Rattle.interval.specs.Laws.Standing.{found, missing}
+-- `remove::remove` meets its contract: the loop is the one of `Removing`. Assumes nothing.
+use mathlib.Core.Path.{refl, ap₂}
+use mathlib.Core.Logic.{⊎-elim}
+use Prim.Native.Nat.{_-_}
+use Rattle.base.specs.Laws.Removing.{Removing, removing-start, removing-on, removing-down, removed-none, removed-some, removed-all, removed-count}
+use Rattle.interval.specs.Rows.{named, outRow}
+use Rattle.interval.specs.Laws.Typed.{unmapped, withRows, counted}
 use Rattle.interval.specs.Laws.Remove.{removed, nothing-removed}
 use native.Mathlib.Omega.{arith}
 use borrow.Author.Needs.{needs}
 use Rattle.interval.proofs.remove.remove.Statement.{statement}
 use Rattle.interval.proofs.remove.remove.Tie as tie
 
-long : (c : tie.Start) → length (c .args .t .rows) ≡ 32
-long c = search (needs, unmapped)
+abbrev Inv-loop : tie.InvT-loop
+Inv-loop name t₀ m found₀ i₀ t found i = Removing (withRows t₀) (named name) (t₀ .rows) (t₀ .count) 32 m found t i
 
-place-requires : tie.Need-place-requires
-place-requires c κs = search needs
+abbrev μ-loop : tie.MeasureT-loop
+μ-loop name t₀ m found₀ i₀ t found i = m - i
 
-least-requires : tie.Need-least-requires
+least-requires : tie.Need-least-requires Inv-loop μ-loop
 least-requires c κs = search needs
 
-close-requires : tie.Need-close-requires
-close-requires c κs =
-    let s = c .before .before .before in
-    let t = s .args .t in
-    let h = long s in
-    let e = c .before .least .ensures in
-    omega (arith, length-take (t .count) (t .rows))
+loop-holds : tie.Need-loop-holds Inv-loop μ-loop
+loop-holds c = removing-start _ _ _ _ _ _ (c .least .ensures) (search (needs, unmapped))
 
-returns : tie.Need-returns
+mul-v : tie.Need-mul-v Inv-loop μ-loop
+mul-v c = search needs
+
+element-copy-out-v : tie.Need-element-copy-out-v Inv-loop μ-loop
+element-copy-out-v c = search needs
+
+sub-v : tie.Need-sub-v Inv-loop μ-loop
+sub-v c = omega (arith, c .before .before .before .loop .inv .some (c .before .if1 .taken) .1)
+
+mul-v-2 : tie.Need-mul-v-2 Inv-loop μ-loop
+mul-v-2 c = search needs
+
+element-set-from-v : tie.Need-element-set-from-v Inv-loop μ-loop
+element-set-from-v c = search needs
+
+mul-found : tie.Need-mul-found Inv-loop μ-loop
+mul-found c = search needs
+
+element-copy-out-found : tie.Need-element-copy-out-found Inv-loop μ-loop
+element-copy-out-found c = search needs
+
+add-i : tie.Need-add-i Inv-loop μ-loop
+add-i c = search needs
+
+loop-less : tie.Need-loop-less Inv-loop μ-loop
+loop-less c = search needs
+
+loop-again : tie.Need-loop-again Inv-loop μ-loop
+loop-again c =
+    let v = c .before .before .loop .inv in
+    let h = c .before .loop-test .taken in
+    ⊎-elim (λ w. rw (w .2, w .3, v .some (w .0 .taken) .0) (removing-down v h outRow (w .0 .taken)))
+    (λ w. rw (w .1, w .2, v .none (w .0 .left) .0) (removing-on v h outRow (w .0 .left))) (c .if1 .came)
+
+sub-t : tie.Need-sub-t Inv-loop μ-loop
+sub-t c =
+    let v = c .before .before .loop .inv in
+    omega (arith, v .here, v .some (c .if2 .taken) .1)
+
+returns : tie.Need-returns Inv-loop μ-loop
 returns c =
-    let b = c .before .before in
-    let s = b .before .before in
-    let p = b .before .place in
-    removed (s .args .t) (s .args .name) (p .result) _ (p .ensures)
-    (found (named (s .args .name)) (s .args .t) (long s) (p .result) (b .least .result) (p .ensures) (b .least .ensures) (c .before .if1 .taken)) (c .close .ensures)
+    let v = c .before .before .loop .inv in
+    let a = c .before .before .before .before .args in
+    let g = c .before .loop-test .left in
+    let f = c .if2 .taken in
+    removed (a .t1) (a .name) _ _ refl (removed-some v g f) (ap₂ counted (removed-count v g f) (removed-all v g f))
 
-returns-2 : tie.Need-returns-2
+returns-2 : tie.Need-returns-2 Inv-loop μ-loop
 returns-2 c =
-    let b = c .before in
-    let s = b .before .before in
-    let p = b .before .place in
-    nothing-removed (s .args .t) (s .args .name)
-    (missing (named (s .args .name)) (s .args .t) (long s) (p .result) (b .least .result) (p .ensures) (b .least .ensures) (c .if1 .left))
+    let v = c .before .before .loop .inv in
+    let a = c .before .before .before .before .args in
+    rw (v .none (c .if2 .left) .0) (nothing-removed (a .t1) (a .name) (removed-none v (c .before .loop-test .left) (c .if2 .left)))
 
 pub remove-spec : {M : Type 1} → statement M
-remove-spec = tie.close (tie.spec place-requires least-requires close-requires returns returns-2)
+remove-spec =
+    tie.close
+    (tie.spec
+    Inv-loop
+    μ-loop
+    least-requires
+    loop-holds
+    mul-v
+    element-copy-out-v
+    sub-v
+    mul-v-2
+    element-set-from-v
+    mul-found
+    element-copy-out-found
+    add-i
+    loop-less
+    loop-again
+    sub-t
+    returns
+    returns-2)

@@ -93,11 +93,11 @@ has-own-requires c κs = search needs
 in-phase-requires : tie.Need-in-phase-requires
 in-phase-requires c κs = search needs
 
-mul-t22 : tie.Need-mul-t22
-mul-t22 c = omega (arith, own-below (c .before))
+mul-t21 : tie.Need-mul-t21
+mul-t21 c = omega (arith, own-below (c .before))
 
-element-set-from-u : tie.Need-element-set-from-u
-element-set-from-u c = own-below (c .before)
+element-set-from-t : tie.Need-element-set-from-t
+element-set-from-t c = own-below (c .before)
 
 server-requires : tie.Need-server-requires
 server-requires c κs = search needs
@@ -141,15 +141,15 @@ returns-2 c =
     let l = h .before .before .before in
     let p = l .before .place in
     retrieve-both t n room _
-    (handing (j .if2 .u) (j .if2 .q) room (c .before .cut .result) (c .before .before .before .size .result) (c .least2 .result)
+    (handing (j .if2 .t) (j .if2 .q) room (c .before .cut .result) (c .before .before .before .size .result) (c .least2 .result)
     (c .before .before .before .size .ensures) (c .before .cut .ensures) (c .least2 .ensures)
     ∙ ⊎-elim
     (λ w.
-    ap₂ (λ (u : Requests) (x : Request). handed u x room) (w .3) (w .2 ∙ own (h .before))
+    ap₂ (λ (u : Requests) (x : Request). handed u x room) (w .2) (w .3 ∙ own (h .before))
     ∙ retrieve-own t n room (sym (told h) ∙ w .0 .taken) (p .result) (p .ensures) (w .1 .result) (w .1 .ensures ∙ ap (inPhase (Active true)) (own (h .before))))
     (λ w.
     let a : tie.After-server = record { before = record { before = h; if2 = w .0 }; server = w .1 } in
-    ap₂ (λ (u : Requests) (x : Request). handed u x room) (w .6) (w .5)
+    ap₂ (λ (u : Requests) (x : Request). handed u x room) (w .5) (w .6)
     ∙ retrieve-served t n room (sym (told h) ∙ w .0 .left)
     (found (serving h) t (long s) (w .1 .result) (l .least .result) (served a) (l .least .ensures) (w .2 .left)) (w .1 .result) (served a) (w .4 .result) (w .4 .ensures))
     (j .if2 .came))
@@ -165,8 +165,8 @@ retrieve-spec =
     element-copy-out-q
     has-own-requires
     in-phase-requires
-    mul-t22
-    element-set-from-u
+    mul-t21
+    element-set-from-t
     server-requires
     returns
     mul-q-2

@@ -17,28 +17,28 @@ use Rattle.interval.proofs.rows.close.Statement.{statement}
 use Rattle.interval.proofs.rows.close.Tie as tie
 
 abbrev Inv-loop : tie.InvT-loop
-Inv-loop i last u₀ k₀ u k =
-    (i ≤ k) × (k ≤ last) × (last + 1 ≡ min (u₀ .count) 32) × (length (u₀ .rows) ≡ 32)
-    × (u ≡ withRows u₀ (over (cutAt i (take (k + 1) (u₀ .rows))) (u₀ .rows)))
+Inv-loop i t₀ last k₀ t k =
+    (i ≤ k) × (k ≤ last) × (last + 1 ≡ min (t₀ .count) 32) × (length (t₀ .rows) ≡ 32)
+    × (t ≡ withRows t₀ (over (cutAt i (take (k + 1) (t₀ .rows))) (t₀ .rows)))
 
 abbrev μ-loop : tie.MeasureT-loop
-μ-loop i last u₀ k₀ u k = last - k
+μ-loop i t₀ last k₀ t k = last - k
 
 least-requires : tie.Need-least-requires Inv-loop μ-loop
 least-requires c κs = search needs
 
 sub-last : tie.Need-sub-last Inv-loop μ-loop
 sub-last c =
-    let e = length-take (c .before .args .t .count) (c .before .args .t .rows) in
+    let e = length-take (c .before .args .t1 .count) (c .before .args .t1 .rows) in
     let p = c .before .pre in
-    let h : length (c .before .args .t .rows) ≡ 32 = search (needs, unmapped) in
+    let h : length (c .before .args .t1 .rows) ≡ 32 = search (needs, unmapped) in
     omega arith
 
 loop-holds : tie.Need-loop-holds Inv-loop μ-loop
 loop-holds c =
-    let t : Requests = c .before .args .t in
+    let t : Requests = c .before .args .t1 in
     let e = length-take (t .count) (t .rows) in
-    let h : length (c .before .args .t .rows) ≡ 32 = search (needs, unmapped) in
+    let h : length (c .before .args .t1 .rows) ≡ 32 = search (needs, unmapped) in
     let p : c .before .args .i < length (live t) = c .before .pre in
     (omega arith, omega arith, omega arith, h, ap (withRows t) (sym (cut-none (c .before .args .i) (t .rows))))
 
@@ -67,8 +67,8 @@ loop-again : tie.Need-loop-again Inv-loop μ-loop
 loop-again c =
     let l = c .before .before .loop in
     let a = c .before .before .before .before .args in
-    let t : Requests = a .t in
-    let e : l .u ≡ withRows t (over (cutAt (a .i) (take (l .k + 1) (t .rows))) (t .rows)) = l .inv .4 in (
+    let t : Requests = a .t1 in
+    let e : l .t ≡ withRows t (over (cutAt (a .i) (take (l .k + 1) (t .rows))) (t .rows)) = l .inv .4 in (
       omega arith,
       omega arith,
       l .inv .2,
@@ -80,8 +80,8 @@ returns : tie.Need-returns Inv-loop μ-loop
 returns c =
     let l = c .before .loop in
     let a = c .before .before .before .args in
-    let t : Requests = a .t in
-    let e : l .u ≡ withRows t (over (cutAt (a .i) (take (l .k + 1) (t .rows))) (t .rows)) = l .inv .4 in
+    let t : Requests = a .t1 in
+    let e : l .t ≡ withRows t (over (cutAt (a .i) (take (l .k + 1) (t .rows))) (t .rows)) = l .inv .4 in
     let k : l .k + 1 ≡ min (t .count) (length (t .rows)) = omega arith in
     let f : take (l .k + 1) (t .rows) ≡ live t = ap (λ (n : ℕ). take n (t .rows)) k ∙ take-least (t .count) (t .rows) in
     let n : length (cutAt (a .i) (live t)) + 1 ≡ length (live t) = length-cut (a .i) (live t) (c .before .before .before .pre) in

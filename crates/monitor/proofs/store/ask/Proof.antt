@@ -1,23 +1,17 @@
 -- `store::ask` meets its contract: an arm knows the number, and the number what is asked. Assumes nothing.
-use mathlib.Core.Path.{_≡_, refl, sym, ap, _∙_}
+use mathlib.Core.Path.{sym, ap, _∙_}
 use Prim.Native.Nat.{ℕ}
 use mathlib.Core.List.{List}
-use borrow.Author.Tests.{ne-eqb}
-use Rattle.model.specs.Commands.{operand}
 use Rattle.queues.specs.declared.Queues.{Queues}
-use Rattle.queues.specs.Laws.Runs.{Ask, Delete, store, turn}
+use Rattle.queues.specs.Laws.Runs.{Ask, store, turn}
 use Rattle.monitor.specs.Store.{Lent, stores, storeAsk}
+use Rattle.monitor.proofs.Arms.{last-store-arm}
 use borrow.Author.Needs.{needs}
 use Rattle.monitor.proofs.store.ask.Statement.{statement}
 use Rattle.monitor.proofs.store.ask.Tie as tie
 
 abbrev asking : Queues → List ℕ → List ℕ → ℕ → Lent
 asking q b r k = stores (turn (store q b) (storeAsk k r))
-
--- what no arm names is read as a delete
-other : (n : ℕ) (r : List ℕ) → (n ≡ 10 → ⊥) → (n ≡ 11 → ⊥) → (n ≡ 12 → ⊥) → (n ≡ 13 → ⊥) → storeAsk n r ≡ Delete (operand 0 8 r)
-unfolding storeAsk
-other n r a b d e = rw (ne-eqb n 10 a, ne-eqb n 11 b, ne-eqb n 12 d, ne-eqb n 13 e) refl
 
 append-requires : tie.Need-append-requires
 append-requires c κs = search needs
@@ -68,7 +62,7 @@ returns-5 c =
     let a = m .before .before .args in
     let u = m .match .rest in
     c .delete .ensures (a .items .now)
-    ∙ ap (λ (k : Ask). stores (turn (store (a .q) (a .items .now)) k)) (sym (other _ (a .rec .now) (u .0 .0 .0 .1) (u .0 .0 .1) (u .0 .1) (u .1)))
+    ∙ ap (λ (k : Ask). stores (turn (store (a .q) (a .items .now)) k)) (last-store-arm (a .rec .now) _ (u .0 .0 .0 .1) (u .0 .0 .1) (u .0 .1) (u .1))
 
 pub ask-spec : {M : Type 1} → statement M
 ask-spec =

@@ -19,7 +19,7 @@ use Rattle.queues.specs.Table.{owners}
 use Rattle.queues.specs.Append.{withQueue, put, stored, answer, faultOf}
 use Rattle.queues.specs.Laws.Typed.{Typed, word, byte}
 use Rattle.queues.specs.Laws.Append.{append-both}
-use Rattle.queues.proofs.AppendCases.{Clear, row-known, row-new, way-row, append-fault, append-no-slot, append-stored, made-owner, made-slot, made-len, stores-put, few-copies}
+use Rattle.queues.proofs.AppendCases.{Clear, row-known, row-new, way-row, append-fault, append-no-slot, append-stored, made-owner, stores-put, few-copies}
 use Rattle.queues.proofs.append.append.Statement.{statement}
 use Rattle.queues.proofs.append.append.Tie as tie
 
@@ -38,7 +38,7 @@ clear c =
 -- the struct in which the name has a row
 joined : (c : tie.Joined1) →
     let a = c .before .before .before .before .before .before .before .before .before .before .args in
-    c .if1 .t ≡ withQueue (a .t1) (a .name)
+    c .if1 .q ≡ withQueue (a .t1) (a .name)
 joined c =
     let w = c .before .before in
     let s = w .before .before .before .before .before .before .before .before in
@@ -72,17 +72,17 @@ returns c =
     (ap (λ (o : Appending). answer (a .t1) (a .items .now) o) (c .fault .ensures ∙ ap faultOf (e .enum-told .given .1))
     ∙ append-fault (a .t1) (typed s) (a .items .now) (a .may) (a .name) (a .item .now) _ (sym (d .checks .ensures) ∙ e .enum-told .given .1))
 
-mul-t : tie.Need-mul-t
-mul-t c = eights _ 16 (clear (c .before .before) .below) (lit≤ tt)
+mul-q : tie.Need-mul-q
+mul-q c = eights _ 16 (clear (c .before .before) .below) (lit≤ tt)
 
-element-write-t : tie.Need-element-write-t
-element-write-t c = clear (c .before .before) .below
+element-write-q : tie.Need-element-write-q
+element-write-q c = clear (c .before .before) .below
 
-element-write-t-2 : tie.Need-element-write-t-2
-element-write-t-2 c = clear (c .before .before) .below
+element-write-q-2 : tie.Need-element-write-q-2
+element-write-q-2 c = clear (c .before .before) .below
 
-add-t : tie.Need-add-t
-add-t c = next-fits _ 16 (clear (c .before .before) .below) (lit≤ tt)
+add-q : tie.Need-add-q
+add-q c = next-fits _ 16 (clear (c .before .before) .below) (lit≤ tt)
 
 free-slot-requires : tie.Need-free-slot-requires
 free-slot-requires c κs = search needs
@@ -101,24 +101,21 @@ returns-2 c =
     let s = b .before .before in
     let a = s .args in
     append-both (a .t1) (a .items .now) (a .may) (a .name) (a .item .now) _ _ (typed s) (word (s .fits .name)) (b .b .given .0 .1)
-    (append-no-slot (a .t1) (typed s) (a .items .now) (a .may) (a .name) (a .item .now) (w .w .given .0 .0) (clear w) (j .if1 .t) (joined j)
+    (append-no-slot (a .t1) (typed s) (a .items .now) (a .may) (a .name) (a .item .now) (w .w .given .0 .0) (clear w) (j .if1 .q) (joined j)
     (sym (c .before .before .free-slot .ensures .0) ∙ c .enum-told2 .given .1))
 
 -- what the stores ask: the entry and the slot are within the arrays, and the numbers fit
-record Within (e k copies size : ℕ) (x : Queues) : Type 0 where
+record Within (e k copies size : ℕ) : Type 0 where
   entry : e < 128
   slot : k < 128
   few : copies ≤ 128
   short : size ≤ 64
-  owner-long : length (x .owner) ≡ 128
-  slot-long : length (x .slot) ≡ 128
-  len-long : length (x .len) ≡ 128
 
 within : (c : tie.After-tally) →
     let v = c .before .before .before .before .before .before in
     let j = v .before .before .before .before in
     let s = j .before .before .before .before .before .before .before .before .before .before in
-    Within (c .before .before .before .before .count .result) (v .free .given .0 .0) (c .tally .result) (length (s .args .item .now)) (j .if1 .t)
+    Within (c .before .before .before .before .count .result) (v .free .given .0 .0) (c .tally .result) (length (s .args .item .now))
 within c =
     let n = c .before .before .before .before .count in
     let v = c .before .before .before .before .before .before in
@@ -127,16 +124,12 @@ within c =
     let w = j .before .before in
     let s = w .before .before .before .before .before .before .before .before in
     let a = s .args in
-    let t = typed s in
-    let fr : Free (a .may) (a .t1 .used) (v .free .given .0 .0) = g .free-slot .ensures .1 .some (v .free .given .0 .0) (v .free .given .1) in
+    let fr : Free (a .may) (j .if1 .q .used) (v .free .given .0 .0) = g .free-slot .ensures .1 .some (v .free .given .0 .0) (v .free .given .1) in
     record {
       entry = omega (arith, n .ensures, fr .room);
       slot = fr .below;
-      few = omega (arith, c .tally .ensures, few-copies (a .name) (n .result) (a .t1 .owner), t .owner-long);
+      few = omega (arith, c .tally .ensures, few-copies (a .name) (n .result) (j .if1 .q .owner), made-owner (a .t1) (a .name) (j .if1 .q) (joined j), typed s .owner-long);
       short = clear w .high;
-      owner-long = made-owner (a .t1) (a .name) (j .if1 .t) (joined j) t;
-      slot-long = made-slot (a .t1) (a .name) (j .if1 .t) (joined j) t;
-      len-long = made-len (a .t1) (a .name) (j .if1 .t) (joined j) t;
     }
 
 count-requires : tie.Need-count-requires
@@ -148,23 +141,23 @@ tally-requires c κs = search needs
 add-place : tie.Need-add-place
 add-place c = one-more _ (within c .few)
 
-mul-t-2 : tie.Need-mul-t-2
-mul-t-2 c = eights _ 128 (within c .entry) (lit≤ tt)
+mul-q-2 : tie.Need-mul-q-2
+mul-q-2 c = eights _ 128 (within c .entry) (lit≤ tt)
 
-element-write-t-3 : tie.Need-element-write-t-3
-element-write-t-3 c = within c .entry
+element-write-q-3 : tie.Need-element-write-q-3
+element-write-q-3 c = within c .entry
 
-cast-t : tie.Need-cast-t
-cast-t c = fits-byte _ (le-of-lt (within c .slot))
+cast-q : tie.Need-cast-q
+cast-q c = fits-byte _ (le-of-lt (within c .slot))
 
-element-write-t-4 : tie.Need-element-write-t-4
-element-write-t-4 c = within c .entry
+element-write-q-4 : tie.Need-element-write-q-4
+element-write-q-4 c = within c .entry
 
-cast-t-2 : tie.Need-cast-t-2
-cast-t-2 c = fits-byte _ (le-trans (within c .short) (lit≤ tt))
+cast-q-2 : tie.Need-cast-q-2
+cast-q-2 c = fits-byte _ (le-trans (within c .short) (lit≤ tt))
 
-element-write-t-5 : tie.Need-element-write-t-5
-element-write-t-5 c = within c .slot
+element-write-q-5 : tie.Need-element-write-q-5
+element-write-q-5 c = within c .slot
 
 mark-requires : tie.Need-mark-requires
 mark-requires c κs = search needs
@@ -179,8 +172,8 @@ store-requires c κs =
     let j = v .before .before .before .before in
     slot-room _ _ _ (w .slot) (w .short) (j .before .before .before .before .before .before .before .before .b .given .0 .1)
 
-cast-t45 : tie.Need-cast-t45
-cast-t45 c = one-more-half _ (within (c .before .before) .few)
+cast-t44 : tie.Need-cast-t44
+cast-t44 c = one-more-half _ (within (c .before .before) .few)
 
 returns-3 : tie.Need-returns-3
 unfolding stored
@@ -195,13 +188,14 @@ returns-3 c =
     let s = b .before .before in
     let a = s .args in
     let k : ℕ = v .free .given .0 .0 in
-    let new : Queues = put (withQueue (a .t1) (a .name)) (a .name) (length (a .item .now)) k in
-    let place : ℕ = copies (a .name) (owners (withQueue (a .t1) (a .name))) + 1 in
+    let x : Queues = j .if1 .q in
+    let new : Queues = put x (a .name) (length (a .item .now)) k in
+    let place : ℕ = copies (a .name) (owners x) + 1 in
     append-both (a .t1) (a .items .now) (a .may) (a .name) (a .item .now) _ _ (typed s) (word (s .fits .name)) (b .b .given .0 .1)
-    (stores-put (a .t1) (a .name) (j .if1 .t) (joined j) (length (a .item .now)) k (n .result) (y .tally .result)
+    (stores-put x (a .name) (length (a .item .now)) k (n .result) (y .tally .result)
     (c .before .mark .result) (n .ensures) (y .tally .ensures) (c .before .mark .ensures .0) _
-    ∙ ap (λ (x : List ℕ). answer new x (Stored place)) (c .store .ensures)
-    ∙ append-stored (a .t1) (typed s) (a .items .now) (a .may) (a .name) (a .item .now) (w .w .given .0 .0) (clear w) k
+    ∙ ap (λ (b : List ℕ). answer new b (Stored place)) (c .store .ensures)
+    ∙ append-stored (a .t1) (typed s) (a .items .now) (a .may) (a .name) (a .item .now) (w .w .given .0 .0) (clear w) x (joined j) k
     (sym (g .free-slot .ensures .0) ∙ v .free .given .1))
 
 pub append-spec : {M : Type 1} → statement M
@@ -213,10 +207,10 @@ append-spec =
     enum-told
     fault-requires
     returns
-    mul-t
-    element-write-t
-    element-write-t-2
-    add-t
+    mul-q
+    element-write-q
+    element-write-q-2
+    add-q
     free-slot-requires
     enum-known-free
     enum-told-2
@@ -224,14 +218,14 @@ append-spec =
     count-requires
     tally-requires
     add-place
-    mul-t-2
-    element-write-t-3
-    cast-t
-    element-write-t-4
-    cast-t-2
-    element-write-t-5
+    mul-q-2
+    element-write-q-3
+    cast-q
+    element-write-q-4
+    cast-q-2
+    element-write-q-5
     mark-requires
     mul-store
     store-requires
-    cast-t45
+    cast-t44
     returns-3)

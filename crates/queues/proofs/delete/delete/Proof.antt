@@ -21,11 +21,11 @@ use Rattle.queues.proofs.delete.sweep.Reads as sweep-reads
 use Rattle.queues.proofs.find.find.Reads as find-reads
 
 abbrev Inv-loop : tie.InvT-loop
-Inv-loop name row m t₀ i₀ t i =
-    (row ≤ i) × (i < m) × (m ≤ 16) × (length (t₀ .names) ≡ 16) × (length (t₀ .pointers) ≡ 16) × (t ≡ shutTo t₀ row (i + 1))
+Inv-loop name q₀ row m i₀ q i =
+    (row ≤ i) × (i < m) × (m ≤ 16) × (length (q₀ .names) ≡ 16) × (length (q₀ .pointers) ≡ 16) × (q ≡ shutTo q₀ row (i + 1))
 
 abbrev μ-loop : tie.MeasureT-loop
-μ-loop name row m t₀ i₀ t i = m - i
+μ-loop name q₀ row m i₀ q i = m - i
 
 -- the counts, in lemmas of a few numbers
 later : (r i : ℕ) → r ≤ i → r ≤ i + 1
@@ -79,29 +79,29 @@ loop-holds c =
 add-loop : tie.Need-add-loop Inv-loop μ-loop
 add-loop c = next-fits _ _ (c .loop .inv .1) (le-trans (c .loop .inv .2) (lit≤ tt))
 
-add-t : tie.Need-add-t Inv-loop μ-loop
-add-t c = next-fits _ _ (c .before .loop .inv .1) (le-trans (c .before .loop .inv .2) (lit≤ tt))
+add-q : tie.Need-add-q Inv-loop μ-loop
+add-q c = next-fits _ _ (c .before .loop .inv .1) (le-trans (c .before .loop .inv .2) (lit≤ tt))
 
-mul-t : tie.Need-mul-t Inv-loop μ-loop
-mul-t c = eights _ _ (c .loop-test .taken) (le-trans (c .before .loop .inv .2) (lit≤ tt))
+mul-q : tie.Need-mul-q Inv-loop μ-loop
+mul-q c = eights _ _ (c .loop-test .taken) (le-trans (c .before .loop .inv .2) (lit≤ tt))
 
-element-copy-out-t : tie.Need-element-copy-out-t Inv-loop μ-loop
-element-copy-out-t c = lt-of-lt-of-le (c .loop-test .taken) (c .before .loop .inv .2)
+element-copy-out-q : tie.Need-element-copy-out-q Inv-loop μ-loop
+element-copy-out-q c = lt-of-lt-of-le (c .loop-test .taken) (c .before .loop .inv .2)
 
-mul-t-2 : tie.Need-mul-t-2 Inv-loop μ-loop
-mul-t-2 c = eights _ _ (c .before .before .loop .inv .1) (le-trans (c .before .before .loop .inv .2) (lit≤ tt))
+mul-q-2 : tie.Need-mul-q-2 Inv-loop μ-loop
+mul-q-2 c = eights _ _ (c .before .before .loop .inv .1) (le-trans (c .before .before .loop .inv .2) (lit≤ tt))
 
-element-write-t : tie.Need-element-write-t Inv-loop μ-loop
-element-write-t c = lt-of-lt-of-le (c .before .before .loop .inv .1) (c .before .before .loop .inv .2)
+element-write-q : tie.Need-element-write-q Inv-loop μ-loop
+element-write-q c = lt-of-lt-of-le (c .before .before .loop .inv .1) (c .before .before .loop .inv .2)
 
-add-t-2 : tie.Need-add-t-2 Inv-loop μ-loop
-add-t-2 c = next-fits _ _ (c .before .before .loop .inv .1) (le-trans (c .before .before .loop .inv .2) (lit≤ tt))
+add-q-2 : tie.Need-add-q-2 Inv-loop μ-loop
+add-q-2 c = next-fits _ _ (c .before .before .loop .inv .1) (le-trans (c .before .before .loop .inv .2) (lit≤ tt))
 
-element-copy-out-t-2 : tie.Need-element-copy-out-t-2 Inv-loop μ-loop
-element-copy-out-t-2 c = lt-of-lt-of-le (c .before .loop-test .taken) (c .before .before .loop .inv .2)
+element-copy-out-q-2 : tie.Need-element-copy-out-q-2 Inv-loop μ-loop
+element-copy-out-q-2 c = lt-of-lt-of-le (c .before .loop-test .taken) (c .before .before .loop .inv .2)
 
-element-write-t-2 : tie.Need-element-write-t-2 Inv-loop μ-loop
-element-write-t-2 c = lt-of-lt-of-le (c .before .before .before .loop .inv .1) (c .before .before .before .loop .inv .2)
+element-write-q-2 : tie.Need-element-write-q-2 Inv-loop μ-loop
+element-write-q-2 c = lt-of-lt-of-le (c .before .before .before .loop .inv .1) (c .before .before .before .loop .inv .2)
 
 add-i : tie.Need-add-i Inv-loop μ-loop
 add-i c = next-fits _ _ (c .before .before .before .loop .inv .1) (le-trans (c .before .before .before .loop .inv .2) (lit≤ tt))
@@ -116,7 +116,7 @@ loop-again c =
     let b = l .inv in
     let r = c .before .before .before .before .before .before .find .result in
     let h = c .before .before .loop-test .taken in
-    (later _ _ (b .0), h, b .2, b .3, b .4, shut-step (a .t1) (b .3) (b .4) r (l .i) (l .t) (b .0) (lt-of-lt-of-le h (b .2)) (b .5))
+    (later _ _ (b .0), h, b .2, b .3, b .4, shut-step (a .t1) (b .3) (b .4) r (l .i) (l .q) (b .0) (lt-of-lt-of-le h (b .2)) (b .5))
 
 sweep-requires : tie.Need-sweep-requires Inv-loop μ-loop
 sweep-requires c κs = search needs
@@ -133,7 +133,7 @@ returns-3 c =
     delete-both (a .t1) (a .name) t _ u
     (exact-freed (a .t1) (a .name) t (c .before .before .before .before .before .before .before .before .before .if1 .left) _ _
     (carry-lt _ _ _ _ (row .ensures) least (c .before .before .before .if2 .left))
-    (shut-end (a .t1) (b .3) (b .4) (a .name) (l .i) (l .t) (b .5 ∙ ap (λ (k : ℕ). shutTo (a .t1) k (l .i + 1)) (row .ensures)) (last-row _ _ _ (c .before .loop-test .left) (b .1) least)) (c .sweep .ensures))
+    (shut-end (a .t1) (b .3) (b .4) (a .name) (l .i) (l .q) (b .5 ∙ ap (λ (k : ℕ). shutTo (a .t1) k (l .i + 1)) (row .ensures)) (last-row _ _ _ (c .before .loop-test .left) (b .1) least)) (c .sweep .ensures))
 
 pub delete-spec : {M : Type 1} → statement M
 delete-spec =
@@ -147,14 +147,14 @@ delete-spec =
     returns-2
     loop-holds
     add-loop
-    add-t
-    mul-t
-    element-copy-out-t
-    mul-t-2
-    element-write-t
-    add-t-2
-    element-copy-out-t-2
-    element-write-t-2
+    add-q
+    mul-q
+    element-copy-out-q
+    mul-q-2
+    element-write-q
+    add-q-2
+    element-copy-out-q-2
+    element-write-q-2
     add-i
     loop-less
     loop-again

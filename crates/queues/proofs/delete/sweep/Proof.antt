@@ -16,11 +16,11 @@ use Rattle.queues.proofs.delete.sweep.Statement.{statement}
 use Rattle.queues.proofs.delete.sweep.Tie as tie
 
 abbrev Inv-loop : tie.InvT-loop
-Inv-loop name n t₀ i₀ j₀ t i j =
-    (i ≤ n) × (n ≤ 128) × (length (t₀ .owner) ≡ 128) × (length (t₀ .slot) ≡ 128) × (j ≡ length (othersThan name (take i (t₀ .owner)))) × (t ≡ sweptTo t₀ name i) × (j ≤ i)
+Inv-loop name q₀ n i₀ j₀ q i j =
+    (i ≤ n) × (n ≤ 128) × (length (q₀ .owner) ≡ 128) × (length (q₀ .slot) ≡ 128) × (j ≡ length (othersThan name (take i (q₀ .owner)))) × (q ≡ sweptTo q₀ name i) × (j ≤ i)
 
 abbrev μ-loop : tie.MeasureT-loop
-μ-loop name n t₀ i₀ j₀ t i j = n - i
+μ-loop name q₀ n i₀ j₀ q i j = n - i
 
 -- the counts, in lemmas of a few numbers
 through : (n k m : ℕ) → k ≤ m → n ≡ k → n ≤ m
@@ -49,7 +49,7 @@ count-requires c κs = search needs
 
 loop-holds : tie.Need-loop-holds Inv-loop μ-loop
 loop-holds c =
-    let q = c .before .before .args .q in
+    let q = c .before .before .args .t1 in
     (zero≤, through _ _ _ (held-le (q .used) (record { low = search needs; high = search needs })) (c .count .ensures), search needs, search needs, refl, sym (swept-none q (c .before .before .args .name)), zero≤)
 
 mul-o : tie.Need-mul-o Inv-loop μ-loop
@@ -67,18 +67,18 @@ wide-requires c κs = search needs
 clear-requires : tie.Need-clear-requires Inv-loop μ-loop
 clear-requires c κs = search needs
 
-mul-t : tie.Need-mul-t Inv-loop μ-loop
-mul-t c =
+mul-q : tie.Need-mul-q Inv-loop μ-loop
+mul-q c =
     let l = c .before .before .before .before .loop .inv in
     eights _ _ (kept-below (l .6) (c .before .before .before .loop-test .taken)) (l .1)
 
-element-write-t : tie.Need-element-write-t Inv-loop μ-loop
-element-write-t c =
+element-write-q : tie.Need-element-write-q Inv-loop μ-loop
+element-write-q c =
     let l = c .before .before .before .before .loop .inv in
     below _ _ (kept-below (l .6) (c .before .before .before .loop-test .taken)) (l .1)
 
-element-write-t-2 : tie.Need-element-write-t-2 Inv-loop μ-loop
-element-write-t-2 c =
+element-write-q-2 : tie.Need-element-write-q-2 Inv-loop μ-loop
+element-write-q-2 c =
     let l = c .before .before .before .before .loop .inv in
     below _ _ (kept-below (l .6) (c .before .before .before .loop-test .taken)) (l .1)
 
@@ -103,19 +103,19 @@ loop-again c =
     let s = within-long _ _ _ h (b .1) (b .3) in
     ⊎-elim
     (λ w.
-    let g = turn-hit (a .q) (a .name) (l .i) o s (l .t) (l .j) (b .5) (b .4) (w .0 .taken) in (
+    let g = turn-hit (a .t1) (a .name) (l .i) o s (l .q) (l .j) (b .5) (b .4) (w .0 .taken) in (
       next _ _ h,
       b .1,
       b .2,
       b .3,
       w .5 ∙ g .1,
-      w .4 ∙ ap (λ (x : Used). record { count = l .t .count; names = l .t .names; pointers = l .t .pointers; used = x; owner = l .t .owner; slot = l .t .slot; len = l .t .len })
-          (w .3 .ensures .0 ∙ ap (cleared (l .t .used)) (w .2 .ensures))
+      w .4 ∙ ap (λ (x : Used). record { count = l .q .count; names = l .q .names; pointers = l .q .pointers; used = x; owner = l .q .owner; slot = l .q .slot; len = l .q .len })
+          (w .3 .ensures .0 ∙ ap (cleared (l .q .used)) (w .2 .ensures))
           ∙ g .0,
       gone _ _ _ (w .5) (b .6),
     ))
     (λ w.
-    let g = turn-miss (a .q) (a .name) (l .i) o s (l .t) (l .j) (b .5) (b .4) (w .0 .left) in
+    let g = turn-miss (a .t1) (a .name) (l .i) o s (l .q) (l .j) (b .5) (b .4) (w .0 .left) in
     (next _ _ h, b .1, b .2, b .3, w .2 ∙ g .1, w .1 ∙ g .0, stayed _ _ _ (w .2) (b .6)))
     (c .if1 .came)
 
@@ -131,9 +131,9 @@ returns c =
     let l = c .before .loop in
     let b = l .inv in
     let held = c .before .before .count .ensures in
-    let n : l .i ≡ entries (a .q) = ended _ _ _ (b .0) (c .loop-test .left) held in
-    swept-all (a .q) (a .name) (l .j) _ (l .t) (long-enough _ _ _ held (b .1) (b .2)) (b .5 ∙ ap (sweptTo (a .q) (a .name)) n)
-    (b .4 ∙ ap (λ (k : ℕ). length (othersThan (a .name) (take k (a .q .owner)))) n) (ap (λ (k : ℕ). k - l .j) held)
+    let n : l .i ≡ entries (a .t1) = ended _ _ _ (b .0) (c .loop-test .left) held in
+    swept-all (a .t1) (a .name) (l .j) _ (l .q) (long-enough _ _ _ held (b .1) (b .2)) (b .5 ∙ ap (sweptTo (a .t1) (a .name)) n)
+    (b .4 ∙ ap (λ (k : ℕ). length (othersThan (a .name) (take k (a .t1 .owner)))) n) (ap (λ (k : ℕ). k - l .j) held)
 
 pub sweep-spec : {M : Type 1} → statement M
 sweep-spec =
@@ -148,9 +148,9 @@ sweep-spec =
     element-copy-out-s
     wide-requires
     clear-requires
-    mul-t
-    element-write-t
-    element-write-t-2
+    mul-q
+    element-write-q
+    element-write-q-2
     add-j
     add-i
     loop-less

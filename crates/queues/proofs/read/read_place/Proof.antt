@@ -57,14 +57,14 @@ element-copy-out-wide c = c .if3 .left
 wide-requires : tie.Need-wide-requires
 wide-requires c κs = search needs
 
-cast-t : tie.Need-cast-t
-cast-t c =
+cast-q : tie.Need-cast-q
+cast-q c =
     let a = c .before .before .before .before .before .before .before .before .before .before .before .before .before .before .before .args in
     let g : slotIn (a .t1) (a .name) (a .place) < 128 = carry-lt _ _ _ _ (slot-is (c .before .before .before)) refl (c .before .before .if3 .left) in
     fits-byte _ (place-few (a .t1) (typed (c .before .before .before .before .before .before .before .before .before .before .before .before .before .before .before)) (a .name) (a .place) g)
 
-element-write-t : tie.Need-element-write-t
-element-write-t c = lt-of-lt-of-le (c .before .before .before .before .before .before .before .before .before .before .before .before .if2 .left) (at-most-16 _ _ (c .before .before .before .before .before .before .before .before .before .before .before .before .before .least .ensures))
+element-write-q : tie.Need-element-write-q
+element-write-q c = lt-of-lt-of-le (c .before .before .before .before .before .before .before .before .before .before .before .before .if2 .left) (at-most-16 _ _ (c .before .before .before .before .before .before .before .before .before .before .before .before .before .least .ensures))
 
 mul-cut-to : tie.Need-mul-cut-to
 mul-cut-to c = sixties _ 128 (c .before .before .if3 .left) (lit≤ tt)
@@ -96,8 +96,8 @@ read-place-spec =
     returns-3
     element-copy-out-wide
     wide-requires
-    cast-t
-    element-write-t
+    cast-q
+    element-write-q
     mul-cut-to
     cut-to-requires
     returns-4)

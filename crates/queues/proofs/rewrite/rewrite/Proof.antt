@@ -83,11 +83,11 @@ returns-4 c =
     (rewrite-none (a .t1) (a .items .now) (a .name) (a .place) (a .item .now) (ne-eqb _ _ (c .before .before .before .before .before .before .before .before .before .before .before .before .before .before .before .before .before .before .if1 .left)) (right (a .item .now) (c .before .before .before .before .before .before .before .before .before .before .before .before .before .before .before .before .before .if2 .left) (c .before .before .before .before .before .before .before .before .before .before .before .before .before .before .before .before .if3 .left))
     (row-known (a .t1) (typed (c .before .before .before .before .before .before .before .before .before .before .before .before .before .before .before .before .before .before .before .before .before)) (a .name) r) g)
 
-cast-t : tie.Need-cast-t
-cast-t c = fits-byte _ (le-trans (ltb-false 64 (length (c .before .before .before .before .before .before .before .before .before .before .before .before .before .before .before .before .before .before .before .before .before .args .item .now)) (c .before .before .before .before .before .before .before .before .before .before .before .before .before .before .before .before .if3 .left)) (lit≤ tt))
+cast-q : tie.Need-cast-q
+cast-q c = fits-byte _ (le-trans (ltb-false 64 (length (c .before .before .before .before .before .before .before .before .before .before .before .before .before .before .before .before .before .before .before .before .before .args .item .now)) (c .before .before .before .before .before .before .before .before .before .before .before .before .before .before .before .before .if3 .left)) (lit≤ tt))
 
-element-write-t : tie.Need-element-write-t
-element-write-t c = c .if5 .left
+element-write-q : tie.Need-element-write-q
+element-write-q c = c .if5 .left
 
 mul-store : tie.Need-mul-store
 mul-store c = sixties _ 128 (c .if5 .left) (lit≤ tt)
@@ -122,8 +122,8 @@ rewrite-spec =
     returns-3
     slot-at-requires
     returns-4
-    cast-t
-    element-write-t
+    cast-q
+    element-write-q
     mul-store
     store-requires
     returns-5)
