@@ -4,14 +4,14 @@ ghost use mathlib.Core.Bool.{true};
 ghost use Rattle.handlers.specs.Table.{soundH};
 ghost use Rattle.handlers.specs.Forget.{forgetIn, Forgotten};
 use crate::Tasks;
-use crate::rows;
+use base::sets::least;
 
 // The row of that name goes, and those behind it move down; where there is none, nothing does.
 pub fn forget(mut t: Tasks, name: u64) -> Tasks
     ensures exact { λ r. ⌜ r ≡ forgetIn t name ⌝ }
     ensures model { λ r. ⌜ (soundH t ≡ true → Forgotten t name r) ⌝ }
 {
-    let m = rows::least(t.count, 16);
+    let m = least(t.count, 16);
     let mut found = false;
     let mut i: usize = 0;
     while i < m {

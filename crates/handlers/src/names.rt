@@ -7,13 +7,13 @@ ghost use Rattle.handlers.specs.Table.{tasksOf};
 ghost use Rattle.handlers.specs.Names.{namesIn};
 use crate::Tasks;
 use crate::answers::Names;
-use crate::rows;
+use base::sets::least;
 
 pub fn names(t: Tasks) -> Names
     ensures exact { λ r. ⌜ r ≡ namesIn t ⌝ }
     ensures model { λ r. ⌜ take (r .count) (r .list) ≡ map (λ (m : model.Task). m .name) (tasksOf t) ⌝ }
 {
-    let m = rows::least(t.count, 16);
+    let m = least(t.count, 16);
     let mut list = [0u64; 16];
     let mut i: usize = 0;
     while i < m {

@@ -1,11 +1,11 @@
 // The rows: one with nothing set, and where a name stands.
 ghost use mathlib.Core.Path.{_≡_};
-ghost use Prim.Native.Nat.{min};
 ghost use Rattle.handlers.specs.Rows.{unsetRow, foundIn};
 use crate::Cell;
 use crate::Setting;
 use crate::Task;
 use crate::Tasks;
+use base::sets::least;
 
 // Where a row stands, and what it holds.
 pub struct Found {
@@ -24,12 +24,6 @@ pub(crate) fn unset_row(name: u64) -> Task
         name,
         cells: [c; 11],
     }
-}
-
-pub(crate) fn least(a: usize, b: usize) -> usize
-    ensures { λ r. ⌜ r ≡ min a b ⌝ }
-{
-    if a <= b { a } else { b }
 }
 
 // The first row of that name; where none has it, the place behind them all, and a row with nothing set.

@@ -12,15 +12,11 @@ use crate::Tasks;
 use crate::answers::Handled;
 use crate::answers::Outcome;
 use crate::rows;
+use base::bytes::wide;
+use base::sets::least;
 
 // The last condition that has a setting.
 const LAST: u8 = 10;
-
-fn wide(x: u8) -> usize
-    ensures { λ r. ⌜ r ≡ x ⌝ }
-{
-    x as usize
-}
 
 fn most(a: usize, b: usize) -> usize
     ensures { λ r. ⌜ r ≡ max a b ⌝ }
@@ -39,7 +35,7 @@ fn set_to(mut t: Tasks, name: u64, condition: u8, setting: Setting) -> Handled
             outcome: Outcome::Invalid,
         };
     }
-    let m = rows::least(t.count, 16);
+    let m = least(t.count, 16);
     let mut i: usize = 0;
     while i < m {
         if t.rows[i].name == name {

@@ -1,8 +1,6 @@
 // Are the settings sound: "handler labels are not 0", and a task has one row.
 ghost use mathlib.Core.Path.{_≡_};
-ghost use lib.ListN.{take, drop};
-ghost use Rattle.base.specs.Lists.{has, all};
-ghost use Rattle.base.specs.Lists as lists;
+ghost use Rattle.base.specs.Lists.{all};
 ghost use Rattle.model.specs.Handlers as model;
 ghost use Rattle.handlers.specs.Table.{settingOf, live, soundH};
 ghost use Rattle.handlers.specs.Rows.{soundRow};
@@ -10,37 +8,8 @@ use crate::Setting;
 use crate::Task;
 use crate::Tasks;
 use crate::names;
-use crate::rows;
-
-// Whether x is among the first n, from a place on.
-fn later(l: &[u64], from: usize, n: usize, x: u64) -> bool
-    ensures { λ r. ⌜ r ≡ has x (drop from (take n (now (l .entry)))) ⌝ }
-{
-    let m = rows::least(n, l.len());
-    let mut i = from;
-    while i < m {
-        if l[i] == x {
-            return true;
-        }
-        i += 1;
-    }
-    false
-}
-
-// Whether none of the first n stands twice.
-fn once(l: &[u64], n: usize) -> bool
-    ensures { λ r. ⌜ r ≡ lists.once (take n (now (l .entry))) ⌝ }
-{
-    let m = rows::least(n, l.len());
-    let mut i: usize = 0;
-    while i < m {
-        if later(l, i + 1, n, l[i]) {
-            return false;
-        }
-        i += 1;
-    }
-    true
-}
+use base::sets::least;
+use base::sets::once;
 
 // "a label 1..65535"
 fn labelled(s: Setting) -> bool
@@ -72,7 +41,7 @@ fn row_sound(v: Task) -> bool
 fn rows_sound(t: Tasks) -> bool
     ensures { λ r. ⌜ r ≡ all soundRow (live t) ⌝ }
 {
-    let m = rows::least(t.count, 16);
+    let m = least(t.count, 16);
     let mut i: usize = 0;
     while i < m {
         let v = t.rows[i];

@@ -17,6 +17,7 @@ ghost use Rattle.monitor.specs.Requests.{asks, askOf};
 use crate::answers::Said;
 use crate::answers::carrying;
 use crate::answers::plain;
+use base::bytes::wide;
 use interval::Requests;
 use interval::advance::Passing;
 use interval::answers::Cancel;
@@ -29,12 +30,6 @@ use interval::answers::Start;
 pub struct Asked {
     pub requests: Requests,
     pub said: Said,
-}
-
-fn wide(x: u8) -> usize
-    ensures { λ r. ⌜ r ≡ x ⌝ }
-{
-    x as usize
 }
 
 // ---- document 01's condition of each outcome

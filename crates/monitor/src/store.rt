@@ -14,6 +14,7 @@ ghost use Prim.Native.Nat.{ℕ};
 use crate::answers::Said;
 use crate::answers::carrying;
 use crate::answers::plain;
+use base::bytes::wide;
 use queues::Queues;
 use queues::append::Appending;
 use queues::delete::Deleting;
@@ -29,12 +30,6 @@ pub struct Stored {
 
 // All slots: nobody has a share of his own.
 const ALL: usize = 128;
-
-fn wide(x: u8) -> usize
-    ensures { λ r. ⌜ r ≡ x ⌝ }
-{
-    x as usize
-}
 
 // ---- document 01's condition, number and bytes of each outcome
 

@@ -3,12 +3,7 @@ ghost use mathlib.Core.Path.{_≡_};
 ghost use Prim.Native.Nat.{_+_, _^_, _<_, _≤_};
 ghost use lib.ListN.{length};
 ghost use Rattle.base.specs.Bytes.{num};
-
-fn wide(x: u8) -> u64
-    ensures { λ r. ⌜ (r ≡ x) × (r < 256) ⌝ }
-{
-    x as u64
-}
+use base::bytes::wide64;
 
 // The n bytes at a place, four at most.
 pub(crate) fn number(l: &[u8], at: usize, n: usize) -> u64
@@ -18,7 +13,7 @@ pub(crate) fn number(l: &[u8], at: usize, n: usize) -> u64
     let mut x: u64 = 0;
     let mut i: usize = 0;
     while i < n {
-        x = x * 256 + wide(l[at + i]);
+        x = x * 256 + wide64(l[at + i]);
         i = i + 1;
     }
     x

@@ -10,7 +10,7 @@ ghost use Rattle.queues.specs.Delete.{conditionOf, numberOf, swept, dele
 use crate::Queues;
 use crate::find::find;
 use crate::place::BLANK;
-use crate::place::wide;
+use base::bytes::wide;
 use base::sets::least;
 
 pub enum Deleting {

@@ -5,16 +5,11 @@ ghost use lib.ListN.{take, length, getD};
 ghost use Rattle.slots.specs.Bits.{held};
 ghost use Rattle.queues.specs.Table.{slotsOf};
 ghost use Rattle.queues.specs.Place.{slotAt};
+use base::bytes::wide;
 use slots::Used;
 
 // A name of spaces only.
 pub(crate) const BLANK: u64 = 0x2020202020202020;
-
-pub(crate) fn wide(x: u8) -> usize
-    ensures exact { λ r. ⌜ r ≡ x ⌝ }
-{
-    x as usize
-}
 
 // The slot of the queue's item that stands behind `index` others; 128 where there is none.
 pub(crate) fn nth<'a>(owner: &'a [u64], slot: &'a [u8], n: usize, name: u64, index: usize) -> usize

@@ -13,7 +13,7 @@ use super::Queues;
 use super::find::find;
 use super::place::BLANK;
 use super::place::slot_at;
-use super::place::wide;
+use base::bytes::wide;
 use base::sets::least;
 
 // The item lies at `at` in the lent bytes, is `full` bytes long, and `len` of them fit the room.

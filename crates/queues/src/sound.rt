@@ -9,7 +9,7 @@ ghost use Rattle.slots.specs.Bits.{usedAt};
 ghost use Rattle.queues.specs.Sound.{pointed, soundQ};
 use crate::Queues;
 use crate::place::BLANK;
-use crate::place::wide;
+use base::bytes::wide;
 use base::sets::least;
 use slots::Used;
 

@@ -7,21 +7,11 @@ ghost use lib.ListN.{length, drop};
 ghost use Rattle.base.specs.Bytes.{num};
 ghost use Rattle.model.specs.Commands.{command, issuer, fits, formed, wrongKind, rowOf};
 ghost use Rattle.records.specs.Rows.{sizeOf, whoOf};
+use base::bytes::wide64;
+use base::sets::least;
 
 // "A name of spaces only (hex 20) is blank.", of 8 bytes.
 const BLANK: u64 = 0x2020202020202020;
-
-fn wide(x: u8) -> u64
-    ensures { λ r. ⌜ (r ≡ x) × (r < 256) ⌝ }
-{
-    x as u64
-}
-
-fn least(a: usize, b: usize) -> usize
-    ensures { λ r. ⌜ r ≡ min a b ⌝ }
-{
-    if a < b { a } else { b }
-}
 
 // How many bytes stand at a place and behind it.
 fn behind(rec: &[u8], at: usize) -> usize
@@ -41,7 +31,7 @@ pub fn number_at(rec: &[u8], at: usize, n: usize) -> u64
     let mut a: u64 = 0;
     let mut i: usize = 0;
     while i < bytes {
-        let b = wide(rec[at + i]);
+        let b = wide64(rec[at + i]);
         a = a * 256 + b;
         i = i + 1;
     }

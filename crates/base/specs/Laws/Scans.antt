@@ -84,18 +84,6 @@ module _ (l : List ℕ) (n i x : ℕ) where
     pub copies-miss : (getD l i 0 ≡ x → ⊥) → copies x (drop (i + 1) (take n l)) ≡ copies x (drop i (take n l))
     copies-miss e = rw (left-cons l n i 0 h b, ne-eqb (getD l i 0) x e) (omega arith)
 
--- none twice: each is looked for among those behind it
-module _ (l : List ℕ) (n i : ℕ) where
-  pub once-left-end : min n (length l) ≤ i → once (drop i (take n l)) ≡ true
-  once-left-end h = rw (left-end l n i h)
-
-  module _ (h : i < n) (b : i < length l) where
-    pub once-left : has (getD l i 0) (drop (i + 1) (take n l)) ≡ false → once (drop (i + 1) (take n l)) ≡ once (drop i (take n l))
-    once-left e = rw (left-cons l n i 0 h b, e)
-
-    pub twice-left : has (getD l i 0) (drop (i + 1) (take n l)) ≡ true → once (drop i (take n l)) ≡ false
-    twice-left e = rw (left-cons l n i 0 h b, e)
-
 -- none twice: each is looked for among those before it
 module _ (l : List ℕ) (n i : ℕ) (h : i < n) (b : i < length l) where
   pub once-hit : has (getD l i 0) (take i l) ≡ false → once (take i l) ≡ true → once (take (i + 1) l) ≡ true

@@ -25,14 +25,14 @@ least-requires-2 c κs = search needs
 loop-holds : tie.Need-loop-holds Inv-loop μ-loop
 loop-holds c = search needs
 
-add-wide : tie.Need-add-wide Inv-loop μ-loop
-add-wide c = search needs
+add-wide64 : tie.Need-add-wide64 Inv-loop μ-loop
+add-wide64 c = search needs
 
-shared-slice-read-wide : tie.Need-shared-slice-read-wide Inv-loop μ-loop
-shared-slice-read-wide c = search needs
+shared-slice-read-wide64 : tie.Need-shared-slice-read-wide64 Inv-loop μ-loop
+shared-slice-read-wide64 c = search needs
 
-wide-requires : tie.Need-wide-requires Inv-loop μ-loop
-wide-requires c κs = search needs
+wide64-requires : tie.Need-wide64-requires Inv-loop μ-loop
+wide64-requires c κs = search needs
 
 mul-a : tie.Need-mul-a Inv-loop μ-loop
 mul-a c = let b = read-below (c .before .before .before .loop .inv .1) (omega arith) in search needs
@@ -48,7 +48,7 @@ loop-less c = search needs
 
 loop-again : tie.Need-loop-again Inv-loop μ-loop
 loop-again c =
-    (search needs, rw (c .wide .ensures .0) (read-more (c .before .before .before .loop .inv .1) (omega arith) (omega arith)))
+    (search needs, rw (c .wide64 .ensures .0) (read-more (c .before .before .before .loop .inv .1) (omega arith) (omega arith)))
 
 returns : tie.Need-returns Inv-loop μ-loop
 returns c = read-all (c .before .loop .inv .1) _ (omega arith)
@@ -63,9 +63,9 @@ number-at-spec =
     behind-requires
     least-requires-2
     loop-holds
-    add-wide
-    shared-slice-read-wide
-    wide-requires
+    add-wide64
+    shared-slice-read-wide64
+    wide64-requires
     mul-a
     add-a
     add-i

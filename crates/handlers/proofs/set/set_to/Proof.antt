@@ -90,7 +90,7 @@ returns-2 c =
     (λ w. w .1 ∙ u .unset-row .ensures ∙ first-nowhere (l .inv) (at k) (unsetRow (a .name)) (w .0 .left))
     (c .before .if4 .came) in
     set-written (a .t1) (a .name) (a .condition) (a .setting) (l .inv .long) (l .i) (at k) (k .before .before .before .if1 .left)
-    (c .before .if4 .v) (c .most .result) (u .before .wide .result) task (u .before .wide .ensures) (u .before .before .if3 .taken) (c .most .ensures)
+    (c .before .if4 .v) (c .most .result) (u .before .wide .result) task (u .before .wide .ensures .0) (u .before .before .if3 .taken) (c .most .ensures)
 
 returns-3 : tie.Need-returns-3 Inv-loop μ-loop
 returns-3 c =

@@ -42,7 +42,7 @@ returns c =
     let task = byte .before in
     let r = g .retrieve .result in
     told retrievedOf
-    (g .retrieve .ensures .0 ∙ ap₂ (retrieveIn (task .before .before .args .t)) (task .issuer .ensures) (room .wide .ensures ∙ byte .number1-at .ensures))
+    (g .retrieve .ensures .0 ∙ ap₂ (retrieveIn (task .before .before .args .t)) (task .issuer .ensures) (room .wide .ensures .0 ∙ byte .number1-at .ensures))
     (c .handing .ensures ∙ ap (λ (k : ℕ). saying k (r .full) (take (r .len) (r .bytes))) (c .before .retrieve-code .ensures))
 
 pub retrieve-spec : {M : Type 1} → statement M

@@ -40,7 +40,7 @@ returns c =
     let e : d .read-at .result ≡ to (operand 0 8 r) (operand 8 2 r) (operand 10 1 r) =
     d .read-at .ensures .0
     ∙ ap (λ (n : ℕ). to n (f .number2-at .result) (d .before .wide .result)) (f .before .name-at .ensures)
-    ∙ ap₂ (to (operand 0 8 r)) (f .number2-at .ensures) (d .before .wide .ensures ∙ d .before .before .number1-at .ensures) in
+    ∙ ap₂ (to (operand 0 8 r)) (f .number2-at .ensures) (d .before .wide .ensures .0 ∙ d .before .before .number1-at .ensures) in
     told (ofRead (a .items .now)) (d .read-at .result) _ e (c .reading .result) (c .reading .ensures)
 
 pub read-at-spec : {M : Type 1} → statement M

@@ -30,7 +30,7 @@ returns c =
     let a = f .before .before .before .args in
     let r = a .rec .now in
     let e : d .read-next .result ≡ readNextIn (a .q) (operand 0 8 r) (operand 8 1 r) =
-    d .read-next .ensures .0 ∙ ap₂ (readNextIn (a .q)) (f .name-at .ensures) (d .before .wide .ensures ∙ d .before .before .number1-at .ensures) in
+    d .read-next .ensures .0 ∙ ap₂ (readNextIn (a .q)) (f .name-at .ensures) (d .before .wide .ensures .0 ∙ d .before .before .number1-at .ensures) in
     told (ofRead (a .items .now)) (d .read-next .result) _ e (c .reading .result) (c .reading .ensures)
 
 pub read-next-spec : {M : Type 1} → statement M

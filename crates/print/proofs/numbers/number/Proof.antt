@@ -23,14 +23,14 @@ loop-holds c = search needs
 mul-x : tie.Need-mul-x Inv-loop μ-loop
 mul-x c = let b = c .before in let h = byte-room (b .loop .x) (b .loop .i) (omega arith) (b .loop .inv .1) in omega arith
 
-add-wide : tie.Need-add-wide Inv-loop μ-loop
-add-wide c = search needs
+add-wide64 : tie.Need-add-wide64 Inv-loop μ-loop
+add-wide64 c = search needs
 
-shared-slice-read-wide : tie.Need-shared-slice-read-wide Inv-loop μ-loop
-shared-slice-read-wide c = search needs
+shared-slice-read-wide64 : tie.Need-shared-slice-read-wide64 Inv-loop μ-loop
+shared-slice-read-wide64 c = search needs
 
-wide-requires : tie.Need-wide-requires Inv-loop μ-loop
-wide-requires c κs = search needs
+wide64-requires : tie.Need-wide64-requires Inv-loop μ-loop
+wide64-requires c κs = search needs
 
 add-x : tie.Need-add-x Inv-loop μ-loop
 add-x c = let b = c .before .before .before in let h = byte-room (b .loop .x) (b .loop .i) (omega arith) (b .loop .inv .1) in omega arith
@@ -47,7 +47,7 @@ loop-again c =
     let a = b .before .before .args in
     let more : num (a .at) (b .loop .i + 1) (a .l .now) ≡ num (a .at) (b .loop .i) (a .l .now) * 256 + getD (a .l .now) (a .at + b .loop .i) 0 =
     rw (add-one (b .loop .i)) (num-suc (a .at) (b .loop .i) (a .l .now) (omega arith)) in
-    ((omega arith), byte-more _ _ (b .loop .i) (b .loop .inv .1) (c .wide .ensures .1), (omega arith))
+    ((omega arith), byte-more _ _ (b .loop .i) (b .loop .inv .1) (c .wide64 .ensures .1), (omega arith))
 
 returns : tie.Need-returns Inv-loop μ-loop
 returns c =
@@ -63,9 +63,9 @@ number-spec =
     μ-loop
     loop-holds
     mul-x
-    add-wide
-    shared-slice-read-wide
-    wide-requires
+    add-wide64
+    shared-slice-read-wide64
+    wide64-requires
     add-x
     add-i
     loop-less

@@ -110,7 +110,7 @@ loop-again c =
       b .3,
       w .5 ∙ g .1,
       w .4 ∙ ap (λ (x : Used). record { count = l .q .count; names = l .q .names; pointers = l .q .pointers; used = x; owner = l .q .owner; slot = l .q .slot; len = l .q .len })
-          (w .3 .ensures .0 ∙ ap (cleared (l .q .used)) (w .2 .ensures))
+          (w .3 .ensures .0 ∙ ap (cleared (l .q .used)) (w .2 .ensures .0))
           ∙ g .0,
       gone _ _ _ (w .5) (b .6),
     ))

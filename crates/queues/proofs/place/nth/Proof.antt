@@ -37,7 +37,7 @@ returns : tie.Need-returns Inv-loop μ-loop
 returns c =
     let a = c .before .before .before .before .before .before .before .before .before .args in
     let l = c .before .before .before .before .before .before .loop in
-    c .wide .ensures
+    c .wide .ensures .0
     ∙ sym (seek-here (a .owner .now) (a .slot .now) (a .n) (a .name) (l .inv .1) (l .inv .2) (l .i) (l .k) (omega arith) (c .before .before .before .if1 .taken) (c .before .before .if2 .taken))
     ∙ l .inv .3
 

@@ -18,12 +18,12 @@ wide-requires : tie.Need-wide-requires
 wide-requires c κs = search needs
 
 add-result : tie.Need-add-result
-add-result c = omega (arith, c .wide .ensures, c .before .shared-slice-known2 .given (c .before .before .before .before .before .args .row))
+add-result c = omega (arith, c .wide .ensures .0, c .before .shared-slice-known2 .given (c .before .before .before .before .before .args .row))
 
 returns : tie.Need-returns
 returns c =
     let a = c .before .before .before .before .before .args in
-    ap (λ (x : ℕ). x + 1) (c .wide .ensures ∙ sym (getD-take (a .count) (a .pointers .now) (a .row) 0 (omega (arith, c .before .before .before .least .ensures, c .before .before .if1 .taken))))
+    ap (λ (x : ℕ). x + 1) (c .wide .ensures .0 ∙ sym (getD-take (a .count) (a .pointers .now) (a .row) 0 (omega (arith, c .before .before .before .least .ensures, c .before .before .if1 .taken))))
 
 returns-2 : tie.Need-returns-2
 returns-2 c =

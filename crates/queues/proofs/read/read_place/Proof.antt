@@ -81,7 +81,7 @@ returns-4 c =
     let g : slotIn q (a .name) (a .place) < 128 = carry-lt _ _ _ _ is refl (c .before .before .before .if3 .left) in
     let to : ℕ → ℕ → Reading = λ x m. given (a .room) (record { at = x * 64; full = m; len = min m (a .room) }) in
     let o : c .cut-to .result ≡ given (a .room) (partIn q (a .room) (slotIn q (a .name) (a .place))) =
-    c .cut-to .ensures ∙ ap (to (c .before .before .before .before .slot-at .result)) (c .before .wide .ensures) ∙ ap (λ (x : ℕ). to x (getD (q .len) x 0)) is in
+    c .cut-to .ensures ∙ ap (to (c .before .before .before .before .slot-at .result)) (c .before .wide .ensures .0) ∙ ap (λ (x : ℕ). to x (getD (q .len) x 0)) is in
     ap₂ answer (pointed-row q (a .name) (a .place) (a .row) (c .before .before .before .before .before .before .before .before .before .before .before .before .before .before .before .before .pre)) o
     ∙ read-done q (a .name) (a .place) (a .room) (ne-eqb _ _ (c .before .before .before .before .before .before .before .before .before .before .before .before .before .before .before .if1 .left)) (row-known q (typed (c .before .before .before .before .before .before .before .before .before .before .before .before .before .before .before .before)) (a .name) r) g
 

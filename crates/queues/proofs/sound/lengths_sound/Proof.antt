@@ -42,7 +42,7 @@ returns c =
     let a = c .before .before .before .before .before .before .before .before .before .args in
     let l = c .before .before .before .before .before .loop in
     let e : fits (a .len .now) (getD (a .slot .now) (l .i) 0) ≡ _ =
-    ap (fits (a .len .now)) (sym (c .before .before .wide .ensures)) ∙ sym (c .before .length-in .ensures) ∙ not-true _ (c .if1 .taken) in
+    ap (fits (a .len .now)) (sym (c .before .before .wide .ensures .0)) ∙ sym (c .before .length-in .ensures) ∙ not-true _ (c .if1 .taken) in
     sym (all-miss (a .slot .now) (a .n) (l .i) (fits (a .len .now)) 0 (omega arith) (omega arith) e) ∙ l .inv .2
 
 add-i : tie.Need-add-i Inv-loop μ-loop
@@ -56,7 +56,7 @@ loop-again c =
     let a = c .before .before .before .before .before .before .before .before .before .args in
     let l = c .before .before .before .before .before .loop in
     let e : fits (a .len .now) (getD (a .slot .now) (l .i) 0) ≡ _ =
-    ap (fits (a .len .now)) (sym (c .before .before .wide .ensures)) ∙ sym (c .before .length-in .ensures) ∙ not-false _ (c .if1 .left) in
+    ap (fits (a .len .now)) (sym (c .before .before .wide .ensures .0)) ∙ sym (c .before .length-in .ensures) ∙ not-false _ (c .if1 .left) in
     (omega arith, l .inv .1, all-hit (a .slot .now) (a .n) (l .i) (fits (a .len .now)) 0 (omega arith) (omega arith) e ∙ l .inv .2)
 
 returns-2 : tie.Need-returns-2 Inv-loop μ-loop

@@ -59,7 +59,7 @@ returns c =
     let l = c .before .before .before .before .before .before .loop in
     let r = inside (l .i) _ (a .count) (length (a .names .now)) (length (a .pointers .now)) (c .before .before .before .before .before .loop-test .taken) (l .inv .1) in
     let h : copies (getD (a .names .now) (l .i) 0) (take (a .n) (a .owner .now)) < getD (a .pointers .now) (l .i) 0 =
-    carry-lt _ _ _ _ (c .before .tally .ensures) (c .before .before .before .wide .ensures) (c .if1 .taken) in
+    carry-lt _ _ _ _ (c .before .tally .ensures) (c .before .before .before .wide .ensures .0) (c .if1 .taken) in
     sym (pointed-miss (take (a .n) (a .owner .now)) (a .names .now) (a .pointers .now) (a .count) (l .i) (r .known) (r .named) (r .pointing) (lt-leb _ _ h))
     ∙ l .inv .2
 
@@ -74,7 +74,7 @@ loop-again c =
     let a = c .before .before .before .before .before .before .before .before .before .before .before .before .args in
     let l = c .before .before .before .before .before .before .loop in
     let h : getD (a .pointers .now) (l .i) 0 ≤ copies (getD (a .names .now) (l .i) 0) (take (a .n) (a .owner .now)) =
-    carry-le _ _ _ _ (c .before .before .before .wide .ensures) (c .before .tally .ensures) (c .if1 .left) in
+    carry-le _ _ _ _ (c .before .before .before .wide .ensures .0) (c .before .tally .ensures) (c .if1 .left) in
     let t = c .before .before .before .before .before .loop-test .taken in
     let r = inside (l .i) _ (a .count) (length (a .names .now)) (length (a .pointers .now)) t (l .inv .1) in (
       next _ _ t,

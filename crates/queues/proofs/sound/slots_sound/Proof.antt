@@ -42,7 +42,7 @@ returns : tie.Need-returns Inv-loop μ-loop
 returns c =
     let a = c .before .before .before .before .before .before .before .before .args in
     let l = c .before .before .before .before .before .loop in
-    sym (drain-miss (a .slot .now) (a .n) (l .i) (c .before .before .wide .result) (l .v) (omega arith) (omega arith) (c .before .before .wide .ensures)
+    sym (drain-miss (a .slot .now) (a .n) (l .i) (c .before .before .wide .result) (l .v) (omega arith) (omega arith) (c .before .before .wide .ensures .0)
     (sym (c .before .is-used .ensures) ∙ not-true _ (c .if1 .taken)))
     ∙ l .inv .4 ∙ drains-is (a .u) (l .inv .2) (take (a .n) (a .slot .now))
 
@@ -66,7 +66,7 @@ loop-again c =
       l .inv .2,
       subst Typed (sym e) (cleared-typed (l .v) (l .inv .3) s),
       ap (λ (x : Used). drains x (drop (l .i + 1) (take (a .n) (a .slot .now)))) e
-          ∙ drain-hit (a .slot .now) (a .n) (l .i) s (l .v) (omega arith) (omega arith) (c .before .before .before .wide .ensures)
+          ∙ drain-hit (a .slot .now) (a .n) (l .i) s (l .v) (omega arith) (omega arith) (c .before .before .before .wide .ensures .0)
           (sym (c .before .before .is-used .ensures) ∙ not-false _ (c .before .if1 .left))
           ∙ l .inv .4,
     )
