@@ -62,6 +62,65 @@ pub const KINDS: [Kind; 6] = [
     },
 ];
 
+/// Lists of nearly one command alone.
+pub const ALONE: [Kind; 15] = [
+    alone("define-there", "define program, of a program that is there", |_| {
+        define_program(program(0))
+    }),
+    alone("advance-none", "advance by 1 tick, nothing waiting", |_| advance(1)),
+    alone("dispatch-none", "dispatch, nothing in the line", |_| dispatch()),
+    alone("start-unknown", "start, of an unknown program", |_| start("TASK", "NONE", "", 5, b"")),
+    alone(
+        "start",
+        "start of request after request, no space from the 33rd on",
+        |index| match index {
+            0 => define_program(program(0)),
+            _ => start(&*request('A', index), program(0), "", 5, b""),
+        },
+    ),
+    alone("cancel-unknown", "cancel, of an unknown request", |_| cancel("NONE")),
+    alone("retrieve-none", "retrieve by a task that ignores it, no data there", |index| {
+        by_a_task(index, retrieve(64))
+    }),
+    alone("ignore", "ignore by a task", |index| by_a_task(index, ignore(9))),
+    alone("append-blank", "append to a queue of no name", |_| append("", b"x")),
+    alone("append", "append of 1 byte to one queue, no space from the 129th on", |_| {
+        append("ONLY", b"x")
+    }),
+    alone("read-unknown", "read next, of an unknown queue", |_| read_next("NONE", 64)),
+    alone("read-first", "read at 1, of one item of 16 bytes", |index| {
+        of_one_item(index, read_at("ONLY", 1, 64))
+    }),
+    alone("rewrite-first", "rewrite at 1, of one item", |index| {
+        of_one_item(index, rewrite("ONLY", 1, b"x"))
+    }),
+    alone("delete-unknown", "delete, of an unknown queue", |_| delete("NONE")),
+    alone("stranger", "ask ticks, by a task that is not active", |_| ask().by("NOBODY")),
+];
+
+const fn alone(name: &'static str, holds: &'static str, record: fn(usize) -> Record) -> Kind {
+    Kind { name, holds, start: 0, record }
+}
+
+/// A task is dispatched and ignores 9, and then all is its record.
+fn by_a_task(index: usize, record: Record) -> Record {
+    match index {
+        0 => define_program(program(0)),
+        1 => start("TASK", program(0), "", 0, b""),
+        2 => dispatch(),
+        3 => ignore(9).by("TASK"),
+        _ => record.by("TASK"),
+    }
+}
+
+/// An item is appended, and then all is the record.
+fn of_one_item(index: usize, record: Record) -> Record {
+    match index {
+        0 => append("ONLY", b"0123456789abcdef"),
+        _ => record,
+    }
+}
+
 impl Kind {
     /// The list of `most` records, or of as many as fit 4,096 bytes.
     pub fn make(&self, most: usize) -> Made {

@@ -6,7 +6,7 @@ mod lists;
 mod programs;
 mod stack;
 
-use lists::{Kind, Made, KINDS};
+use lists::{Kind, Made, ALONE, KINDS};
 use programs::{Program, PROGRAMS};
 use second::bounds::{ANSWER, LIST};
 use std::hint::black_box;
@@ -17,8 +17,12 @@ const LENGTHS: [usize; 3] = [10, 100, usize::MAX];
 /// Enough for the answers of every list.
 const ENOUGH: usize = (*LIST.end() - 9) / 11 * ANSWER;
 
+const KNOWN: &str = "a name that the harness knows";
+
 const USAGE: &str = "usage: bench kinds                         what the lists hold
        bench lists                         each list: kind, records, bytes; both programs must agree on it
+       bench alone                         the same of the lists of one command
+       bench holds KIND                    what the lists of a kind hold
        bench times                         CPU time a run, in nanoseconds: kind, records, proved, second
        bench stack                         bytes of stack: kind, records, proved, second
        bench call PROGRAM KIND MOST TIMES  so many runs in the function `measured`";
@@ -29,6 +33,10 @@ fn main() {
     match arguments[..] {
         ["kinds"] => KINDS.iter().for_each(|kind| println!("{}: {}", kind.name, kind.holds)),
         ["lists"] => each_list(agree),
+        ["alone"] => {
+            ALONE.iter().for_each(|kind| agree(kind, &kind.make(usize::MAX), &mut vec![0; ENOUGH]))
+        }
+        ["holds", name] => println!("{}", kind_of(name).holds),
         ["times"] => each_list(times),
         ["stack"] => each_list(depths),
         ["call", program, kind, most, times] => call(program, kind, most, times),
@@ -76,8 +84,7 @@ fn depths(kind: &Kind, list: &Made, out: &mut [u8]) {
 /// then the others in it.
 fn call(program: &str, kind: &str, most: &str, times: &str) {
     let (_, program) = *find(&PROGRAMS, |(name, _)| *name == program);
-    let kind = find(&KINDS, |known| known.name == kind);
-    let list = kind.make(number(most));
+    let list = kind_of(kind).make(number(most));
     let mut out = vec![0; ENOUGH];
     program(&list.bytes, &mut out);
     measured(program, &list.bytes, &mut out, number(times));
@@ -92,8 +99,13 @@ fn measured(program: Program, list: &[u8], out: &mut [u8], times: usize) {
     }
 }
 
+fn kind_of(name: &str) -> &'static Kind {
+    let known = |kind: &&Kind| kind.name == name;
+    KINDS.iter().chain(&ALONE).find(known).expect(KNOWN)
+}
+
 fn find<T>(all: &[T], wanted: impl Fn(&T) -> bool) -> &T {
-    all.iter().find(|one| wanted(one)).expect("a name that the harness knows")
+    all.iter().find(|one| wanted(one)).expect(KNOWN)
 }
 
 fn number(text: &str) -> usize {
