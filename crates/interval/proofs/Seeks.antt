@@ -2,6 +2,7 @@
 use Prim.Native.Nat.{ℕ, _+_, _<_, _≤_, min}
 use mathlib.Core.Path.{_≡_}
 use mathlib.Core.Bool.{Bool, true, false}
+use mathlib.Core.Logic.{_⊎_, ⊎-elim}
 use lib.ListN.{length, getD}
 use Rattle.base.specs.Lists.{any, firstAt}
 use Rattle.base.specs.Laws.Seeking as seeking
@@ -37,6 +38,10 @@ module _ (p : Request → Bool) (t : Requests) (m : ℕ) where
 
     pub seeks-end : m ≤ i → i ≡ firstAt p (live t)
     seeks-end h = seeking.seeks-end v h
+
+    -- where a loop that breaks stops: past the last row, or at one that passes
+    pub seeks-stop : {A B : Type 0} → (A → m ≤ i) → (B → (i < m) × (p (getD (t .rows) i outRow) ≡ true)) → A ⊎ B → i ≡ firstAt p (live t)
+    seeks-stop f g = ⊎-elim (λ a. seeks-end (f a)) (λ b. seeks-hit (g b .0) (g b .1))
 
     pub seeks-none : m ≤ i → any p (live t) ≡ false
     seeks-none h = seeking.seeks-none v h

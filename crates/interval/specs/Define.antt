@@ -1,8 +1,9 @@
 -- Define program, define terminal.
 use Prim.Native.Nat.{ℕ}
+use mathlib.Core.Bool.{Bool, true, false}
 use mathlib.Core.List.{List, [], _∷_, _++_}
 use lib.Dec.{eqb, leb}
-use lib.ListN.{length}
+use lib.ListN.{length, take}
 use Rattle.base.specs.Choice.{pick}
 use Rattle.base.specs.Lists.{has, over}
 use Rattle.base.specs.Bytes.{blank}
@@ -11,7 +12,6 @@ use Rattle.interval.specs.declared.Requests.{Requests}
 use Rattle.interval.specs.declared.answers.Define.{Define}
 use Rattle.interval.specs.declared.answers.Define.the-variants.{Done, Invalid, NotUnique, NoSpace}
 use Rattle.interval.specs.declared.answers.Defined.{Defined}
-use Rattle.interval.specs.Table.{programsOf, terminalsOf}
 
 abbrev pub defineGives : Define → ℕ
 defineGives Done = normal
@@ -26,40 +26,45 @@ ruling most known n =
     (pick (has n known) NotUnique
     (pick (leb most (length known)) NoSpace Done))
 
--- the one where it is done, and else the other
-abbrev pub ifDone : {A : Type 0} → Define → A → A → A
-ifDone Done a b = a
-ifDone Invalid a b = b
-ifDone NotUnique a b = b
-ifDone NoSpace a b = b
+abbrev pub isDone : Define → Bool
+isDone Done = true
+isDone Invalid = false
+isDone NotUnique = false
+isDone NoSpace = false
 
-abbrev pub withPrograms : Requests → List ℕ → Requests
-withPrograms t l = record {
+-- t with other programs, and with other terminals: the places, and how many of them count
+abbrev pub putPrograms : Requests → ℕ → List ℕ → Requests
+putPrograms t k l = record {
   register = t .register;
-  pcount = length l;
-  programs = over l (t .programs);
+  pcount = k;
+  programs = l;
   tcount = t .tcount;
   terminals = t .terminals;
   count = t .count;
   rows = t .rows;
 }
 
-abbrev pub withTerminals : Requests → List ℕ → Requests
-withTerminals t l = record {
+abbrev pub putTerminals : Requests → ℕ → List ℕ → Requests
+putTerminals t k l = record {
   register = t .register;
   pcount = t .pcount;
   programs = t .programs;
-  tcount = length l;
-  terminals = over l (t .terminals);
+  tcount = k;
+  terminals = l;
   count = t .count;
   rows = t .rows;
 }
 
-abbrev pub defined : Define → Requests → Requests → Defined
-defined o t new = record { requests = ifDone o new t; outcome = o }
+-- a name more behind the first `count` places, where the ruling is that it is done
+abbrev pub define : ℕ → ℕ → List ℕ → Requests → (ℕ → List ℕ → Requests) → ℕ → Defined
+define most count places t put n =
+    let known : List ℕ = take count places in
+    let more : List ℕ = known ++ (n ∷ []) in
+    let o : Define = ruling most known n in
+    record { requests = pick (isDone o) (put (length more) (over more places)) t; outcome = o }
 
 unfoldable pub defineProgram : Requests → ℕ → Defined
-defineProgram t n = defined (ruling 16 (programsOf t) n) t (withPrograms t (programsOf t ++ (n ∷ [])))
+defineProgram t n = define 16 (t .pcount) (t .programs) t (putPrograms t) n
 
 unfoldable pub defineTerminal : Requests → ℕ → Defined
-defineTerminal t n = defined (ruling 8 (terminalsOf t) n) t (withTerminals t (terminalsOf t ++ (n ∷ [])))
+defineTerminal t n = define 8 (t .tcount) (t .terminals) t (putTerminals t) n

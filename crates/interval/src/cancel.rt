@@ -13,35 +13,31 @@ use crate::rows;
 use base::sets::least;
 
 // "Cancel removes a waiting or expired request. An active one gets 8."
-pub fn cancel(t: Requests, name: u64) -> Cancelled
+pub fn cancel(mut t: Requests, name: u64) -> Cancelled
     ensures exact { λ r. ⌜ r ≡ cancelIn t name ⌝ }
     ensures model { λ r. ⌜ ((c : ℕ) → Means t c → soundR t ≡ true → Done c c t (r .requests) (model.cancel (intervalAt c t) name) (cancelGives (r .outcome)) 0 []) ⌝ }
 {
-    if name == rows::BLANK {
-        return Cancelled {
-            requests: t,
-            outcome: Cancel::Invalid,
-        };
-    }
-    let i = rows::place(t, name);
     let m = least(t.count, 32);
-    if m <= i {
-        return Cancelled {
-            requests: t,
-            outcome: Cancel::NotFound,
-        };
+    let mut i: usize = 0;
+    while i < m {
+        if t.rows[i].name == name {
+            break;
+        }
+        i += 1;
     }
-    let q = t.rows[i];
-    let p = q.phase;
-    if rows::active(p) {
-        return Cancelled {
-            requests: t,
-            outcome: Cancel::NotFound,
-        };
+    let mut o = Cancel::NotFound;
+    if name == rows::BLANK {
+        o = Cancel::Invalid;
+    } else if i < m {
+        let q = t.rows[i];
+        let p = q.phase;
+        if !rows::active(p) {
+            t = rows::close(t, i);
+            o = Cancel::Done;
+        }
     }
-    let u = rows::close(t, i);
     Cancelled {
-        requests: u,
-        outcome: Cancel::Done,
+        requests: t,
+        outcome: o,
     }
 }

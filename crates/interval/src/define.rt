@@ -7,7 +7,7 @@ ghost use lib.ListN.{length, take};
 ghost use Rattle.model.specs.Limits.{cabinet};
 ghost use Rattle.model.specs.Interval as model;
 ghost use Rattle.interval.specs.Stands.{Means, soundR, intervalAt, Done};
-ghost use Rattle.interval.specs.Define.{ruling, defineProgram, defineTerminal, defineGives};
+ghost use Rattle.interval.specs.Define.{isDone, ruling, defineProgram, defineTerminal, defineGives};
 use crate::Requests;
 use crate::answers::Define;
 use crate::answers::Defined;
@@ -29,46 +29,43 @@ fn rule(names: &[u32], count: usize, name: u32) -> Define
     Define::Done
 }
 
-pub fn define_program(t: Requests, name: u32) -> Defined
+fn is_done(o: Define) -> bool
+    ensures { λ r. ⌜ r ≡ isDone o ⌝ }
+{
+    match o {
+        Define::Done => true,
+        Define::Invalid => false,
+        Define::NotUnique => false,
+        Define::NoSpace => false,
+    }
+}
+
+pub fn define_program(mut t: Requests, name: u32) -> Defined
     ensures exact { λ r. ⌜ r ≡ defineProgram t name ⌝ }
     ensures model { λ r. ⌜ ((c : ℕ) → Means t c → soundR t ≡ true → Done c c t (r .requests) (model.defineProgram cabinet (intervalAt c t) name) (defineGives (r .outcome)) 0 []) ⌝ }
 {
     let o = rule(&t.programs, t.pcount, name);
-    let mut u = t;
-    match o {
-        Define::Done => {
-            let n = t.pcount;
-            u.programs[n] = name;
-            u.pcount = n + 1;
-        }
-        Define::Invalid => {}
-        Define::NotUnique => {}
-        Define::NoSpace => {}
+    if is_done(o) {
+        t.programs[t.pcount] = name;
+        t.pcount += 1;
     }
     Defined {
-        requests: u,
+        requests: t,
         outcome: o,
     }
 }
 
-pub fn define_terminal(t: Requests, name: u32) -> Defined
+pub fn define_terminal(mut t: Requests, name: u32) -> Defined
     ensures exact { λ r. ⌜ r ≡ defineTerminal t name ⌝ }
     ensures model { λ r. ⌜ ((c : ℕ) → Means t c → soundR t ≡ true → Done c c t (r .requests) (model.defineTerminal cabinet (intervalAt c t) name) (defineGives (r .outcome)) 0 []) ⌝ }
 {
     let o = rule(&t.terminals, t.tcount, name);
-    let mut u = t;
-    match o {
-        Define::Done => {
-            let n = t.tcount;
-            u.terminals[n] = name;
-            u.tcount = n + 1;
-        }
-        Define::Invalid => {}
-        Define::NotUnique => {}
-        Define::NoSpace => {}
+    if is_done(o) {
+        t.terminals[t.tcount] = name;
+        t.tcount += 1;
     }
     Defined {
-        requests: u,
+        requests: t,
         outcome: o,
     }
 }

@@ -27,7 +27,7 @@ use Rattle.interval.specs.declared.answers.Cancelled.{Cancelled}
 use Rattle.interval.specs.declared.answers.Retrieved.{Retrieved}
 use Rattle.interval.specs.Circle.{after}
 use Rattle.interval.specs.Laws.Circle.{after-lt}
-use Rattle.interval.specs.Table.{programsOf, terminalsOf, live, withLive, inPhase}
+use Rattle.interval.specs.Table.{live, withLive, inPhase}
 use Rattle.interval.specs.Rows.{active, named, noRow, outRow, withRow}
 use Rattle.interval.specs.Typed.{word, typedPhase, typedRest, typedRow, Typed}
 use Rattle.interval.specs.Advance.{dueIn, noLater, newly, lapse, moved, advanceOf}
@@ -141,18 +141,29 @@ module _ (t : Requests) (y : Typed t) where
 
   -- ---- each operation
 
+  -- a list of names, whichever, with one more
+  define-typed : (most count : ℕ) (l : List ℕ) (put : ℕ → List ℕ → Requests) (n : ℕ) → word n ≡ true → length l ≡ most → all word l ≡ true
+      → ((k : ℕ) (r : List ℕ) → k ≤ most → length r ≡ most → all word r ≡ true → Typed (put k r))
+      → Typed (define.define most count l t put n .requests)
+  define-typed most count l put n w long each f =
+      let known : List ℕ = take count l in
+      let more : List ℕ = known ++ (n ∷ []) in
+      pick-elim Typed (define.isDone (define.ruling most known n)) (put (length more) (over more l)) t
+      (λ e.
+      let few : length more ≤ most = simp length-append (omega (arith, defines.room most known n e)) in
+      f (length more) (over more l) few (length-over more l (omega (arith, long)) ∙ long)
+      (all-over word more l (all-snoc word known n (all-take word count l each) w) each))
+      (λ _. y)
+
   pub program-typed : (n : ℕ) → word n ≡ true → Typed (define.defineProgram t n .requests)
   unfolding define.defineProgram
   program-typed n w =
-      let l : List ℕ = programsOf t in
-      defines.ifDone-elim Typed (define.ruling 16 l n) (define.withPrograms t (l ++ (n ∷ []))) t
-      (λ e.
-      let few : length (l ++ (n ∷ [])) ≤ 16 = simp length-append (omega (arith, defines.room 16 l n e)) in
-      record {
+      define-typed 16 (t .pcount) (t .programs) (define.putPrograms t) n w (y .programs) (y .eachProgram)
+      (λ k r few long each. record {
         register = y .register;
         pcount = omega arith;
-        programs = length-over (l ++ (n ∷ [])) (t .programs) (omega (arith, y .programs)) ∙ y .programs;
-        eachProgram = all-over word (l ++ (n ∷ [])) (t .programs) (all-snoc word l n (all-take word (t .pcount) (t .programs) (y .eachProgram)) w) (y .eachProgram);
+        programs = long;
+        eachProgram = each;
         tcount = y .tcount;
         terminals = y .terminals;
         eachTerminal = y .eachTerminal;
@@ -160,28 +171,23 @@ module _ (t : Requests) (y : Typed t) where
         rows = y .rows;
         eachRow = y .eachRow;
       })
-      y
 
   pub terminal-typed : (n : ℕ) → word n ≡ true → Typed (define.defineTerminal t n .requests)
   unfolding define.defineTerminal
   terminal-typed n w =
-      let l : List ℕ = terminalsOf t in
-      defines.ifDone-elim Typed (define.ruling 8 l n) (define.withTerminals t (l ++ (n ∷ []))) t
-      (λ e.
-      let few : length (l ++ (n ∷ [])) ≤ 8 = simp length-append (omega (arith, defines.room 8 l n e)) in
-      record {
+      define-typed 8 (t .tcount) (t .terminals) (define.putTerminals t) n w (y .terminals) (y .eachTerminal)
+      (λ k r few long each. record {
         register = y .register;
         pcount = y .pcount;
         programs = y .programs;
         eachProgram = y .eachProgram;
         tcount = omega arith;
-        terminals = length-over (l ++ (n ∷ [])) (t .terminals) (omega (arith, y .terminals)) ∙ y .terminals;
-        eachTerminal = all-over word (l ++ (n ∷ [])) (t .terminals) (all-snoc word l n (all-take word (t .tcount) (t .terminals) (y .eachTerminal)) w) (y .eachTerminal);
+        terminals = long;
+        eachTerminal = each;
         count = y .count;
         rows = y .rows;
         eachRow = y .eachRow;
       })
-      y
 
   pub advance-typed : (ticks : ℕ) → Typed (advanceOf t ticks .requests)
   unfolding advanceOf

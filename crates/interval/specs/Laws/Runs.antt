@@ -23,7 +23,7 @@ use Rattle.interval.specs.Runs.{Ask, Program, Terminal, Advance, AskTick
 use Rattle.interval.specs.Stands.{intervalAt, Means, soundR, Done}
 use Rattle.interval.specs.Start.{startIn}
 use Rattle.interval.specs.Laws.Cancel.{cancel-done}
-use Rattle.interval.specs.Laws.Define.{program-done, terminal-done}
+use Rattle.interval.specs.Laws.Define.{programs, terminals, define-done}
 use Rattle.interval.specs.Laws.Dispatch.{dispatch-both}
 use Rattle.interval.specs.Laws.Fresh.{fresh-both, ask-both}
 use Rattle.interval.specs.Laws.Remove.{remove-done}
@@ -54,8 +54,8 @@ module _ (c : ℕ) (t : Requests) (m : Means t c) (s : soundR t ≡ true) where
   }
 
   pub turned : (a : Ask) → inRange a ≡ true → Turned c t a
-  turned (Program n) h = by-plan (Program n) c (model.defineProgram cabinet (intervalAt c t) n) refl (program-done t n (ltb-true n (2 ^ 32) h) c m s)
-  turned (Terminal n) h = by-plan (Terminal n) c (model.defineTerminal cabinet (intervalAt c t) n) refl (terminal-done t n (ltb-true n (2 ^ 32) h) c m s)
+  turned (Program n) h = by-plan (Program n) c (model.defineProgram cabinet (intervalAt c t) n) refl (define-done (programs t n (ltb-true n (2 ^ 32) h)) c m s)
+  turned (Terminal n) h = by-plan (Terminal n) c (model.defineTerminal cabinet (intervalAt c t) n) refl (define-done (terminals t n (ltb-true n (2 ^ 32) h)) c m s)
   turned (Advance n) h =
       by-plan (Advance n) (clockAfter c n (advanceOf t n .outcome)) (model.advance cabinet (intervalAt c t) n) refl (tied.both t n (advanceOf t n) refl .1 c m s)
   turned AskTicks h = by-plan AskTicks c (model.askTicks (intervalAt c t)) refl (ask-both t .1 c m s)

@@ -1,90 +1,43 @@
 -- `define::define_terminal` meets its contract. Assumes nothing.
-use mathlib.Core.Path.{_≡_, refl}
-use Prim.Native.Nat.{_<_, _^_}
-use lib.ListN.{length}
-use Rattle.interval.specs.declared.answers.Define.the-variants as answers
-use Rattle.interval.specs.Laws.Define.{terminal-room, terminal-same, terminal-put}
+use Prim.Native.Nat.{_<_}
 use native.Mathlib.Omega.{arith}
 use borrow.Author.Needs.{needs}
+use Rattle.interval.specs.Laws.Define.{terminals, define-room, define-put, define-same}
 use Rattle.interval.proofs.define.define_terminal.Statement.{statement}
 use Rattle.interval.proofs.define.define_terminal.Tie as tie
-
-long : (c : tie.Start) → length (c .args .t1 .terminals) ≡ 8
-long c = search needs
-
-fits : (c : tie.Start) → c .args .name < 256 ^ 4
-fits c = omega arith
 
 rule-requires : tie.Need-rule-requires
 rule-requires c κs = search needs
 
-enum-told : tie.Need-enum-told
-enum-told c = search needs
+is-done-requires : tie.Need-is-done-requires
+is-done-requires c = search needs
 
-mul-u : tie.Need-mul-u
-mul-u c =
+room : (c : tie.Then1) → c .before .before .before .before .before .before .args .t1 .tcount < 8
+room c =
     let b = c .before .before in
     let s = b .before .before .before .before in
-    omega (arith, terminal-room (s .args .t1) (s .args .name) (fits s) (long s) (b .rule .result) (b .rule .ensures) (c .enum-told .given .1))
+    define-room (terminals (s .args .t1) (s .args .name) (omega arith)) (search needs) _ (b .rule .ensures) _ (c .before .is-done .ensures) (c .if1 .taken)
 
-element-write-u : tie.Need-element-write-u
-element-write-u c =
-    let b = c .before .before in
-    let s = b .before .before .before .before in
-    omega (arith, terminal-room (s .args .t1) (s .args .name) (fits s) (long s) (b .rule .result) (b .rule .ensures) (c .enum-told .given .1))
+mul-t : tie.Need-mul-t
+mul-t c = omega (arith, room c)
 
-add-u : tie.Need-add-u
-add-u c =
-    let b = c .before .before in
-    let s = b .before .before .before .before in
-    omega (arith, terminal-room (s .args .t1) (s .args .name) (fits s) (long s) (b .rule .result) (b .rule .ensures) (c .enum-told .given .1))
+element-write-t : tie.Need-element-write-t
+element-write-t c = omega (arith, room c)
 
-enum-told-2 : tie.Need-enum-told-2
-enum-told-2 c = search needs
-
-enum-told-3 : tie.Need-enum-told-3
-enum-told-3 c = search needs
-
-enum-told-4 : tie.Need-enum-told-4
-enum-told-4 c = search needs
+add-t : tie.Need-add-t
+add-t c = omega (arith, room c)
 
 returns : tie.Need-returns
 returns c =
     let b = c .before .before in
     let s = b .before .before .before .before in
-    terminal-put (s .args .t1) (s .args .name) (fits s) (long s) (b .rule .result) (b .rule .ensures) (c .enum-told .given .1)
+    define-put (terminals (s .args .t1) (s .args .name) (omega arith)) (search needs) _ (b .rule .ensures) _ (c .before .is-done .ensures) (c .if1 .taken)
 
 returns-2 : tie.Need-returns-2
 returns-2 c =
     let b = c .before .before in
     let s = b .before .before .before .before in
-    terminal-same (s .args .t1) (s .args .name) (fits s) (long s) (b .rule .result) (b .rule .ensures) answers.Invalid (c .enum-told2 .given .1) refl
-
-returns-3 : tie.Need-returns-3
-returns-3 c =
-    let b = c .before .before in
-    let s = b .before .before .before .before in
-    terminal-same (s .args .t1) (s .args .name) (fits s) (long s) (b .rule .result) (b .rule .ensures) answers.NotUnique (c .enum-told3 .given .1) refl
-
-returns-4 : tie.Need-returns-4
-returns-4 c =
-    let b = c .before .before in
-    let s = b .before .before .before .before in
-    terminal-same (s .args .t1) (s .args .name) (fits s) (long s) (b .rule .result) (b .rule .ensures) answers.NoSpace (c .enum-told4 .given .1) refl
+    define-same (terminals (s .args .t1) (s .args .name) (omega arith)) (search needs) _ (b .rule .ensures) _ (c .before .is-done .ensures) (c .if1 .left)
 
 pub define-terminal-spec : {M : Type 1} → statement M
-define-terminal-spec =
-    tie.close
-    (tie.spec
-    rule-requires
-    enum-told
-    mul-u
-    element-write-u
-    add-u
-    enum-told-2
-    enum-told-3
-    enum-told-4
-    returns
-    returns-2
-    returns-3
-    returns-4)
+define-terminal-spec = tie.close (tie.spec rule-requires is-done-requires mul-t element-write-t add-t returns returns-2)

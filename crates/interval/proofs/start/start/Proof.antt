@@ -1,7 +1,6 @@
 -- `start::start` meets its contract: the rows passed do not have the name. Assumes nothing.
 use mathlib.Core.Path.{_≡_, refl, _∙_}
 use mathlib.Core.Bool.{true}
-use mathlib.Core.Logic.{⊎-elim}
 use Prim.Native.Nat.{_<_, _-_, _^_}
 use lib.ListN.{length, getD}
 use borrow.Author.Tests.{lt-ltb, eq-eqb, ne-eqb}
@@ -15,7 +14,7 @@ use Rattle.interval.specs.Rows.{named}
 use Rattle.interval.specs.Start.{asked, ruled}
 use Rattle.interval.specs.Laws.Typed.{unmapped}
 use Rattle.interval.specs.Laws.Start.{Clear, start-same, start-facts, start-put, start-told, start-count}
-use Rattle.interval.proofs.Seeks.{Sought, seeks-on, seeks-hit, seeks-end}
+use Rattle.interval.proofs.Seeks.{Sought, seeks-on, seeks-stop}
 use native.Mathlib.Omega.{arith}
 use borrow.Author.Needs.{needs}
 use Rattle.interval.proofs.start.start.Statement.{statement}
@@ -54,9 +53,7 @@ sought : (c : tie.Left-loop Inv-loop μ-loop)
 sought c =
     let l = c .before .loop in
     let a = first (c .before .before) .before .args in
-    ⊎-elim (λ w. seeks-end (named (a .name)) (a .t1) _ (l .i) (l .inv) (w .left))
-    (λ w. seeks-hit (named (a .name)) (a .t1) _ (l .i) (l .inv) (w .0 .taken) (eq-eqb _ _ (w .1 .taken)))
-    (c .loop-test .came)
+    seeks-stop (named (a .name)) (a .t1) _ (l .i) (l .inv) (λ w. w .left) (λ w. (w .0 .taken, eq-eqb _ _ (w .1 .taken))) (c .loop-test .came)
 
 told : (c : tie.After-rule Inv-loop μ-loop) → c .rule .result ≡ ruled (first (counting c) .before .args .t1) (wanted (first (counting c) .before))
 told c =
