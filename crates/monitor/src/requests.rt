@@ -4,7 +4,7 @@ ghost use mathlib.Core.List.{[], _++_};
 ghost use Prim.Native.Nat.{_≤_};
 ghost use lib.ListN.{take};
 ghost use Rattle.base.specs.Bytes.{bytesOf};
-ghost use Rattle.model.specs.Commands.{issuer, operand, rest, asked};
+ghost use Rattle.model.specs.Commands.{issuer, operand, asked};
 ghost use Rattle.interval.specs.Advance.{conditionOf, numberOf};
 ghost use Rattle.interval.specs.Cancel.{cancelGives};
 ghost use Rattle.interval.specs.Define.{defineGives};

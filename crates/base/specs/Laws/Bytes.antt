@@ -4,12 +4,12 @@ use mathlib.Core.Path.{_≡_, refl, ap, ap₂, _∙_}
 use mathlib.Core.Bool.{true, _&&_}
 use mathlib.Core.List.{List, [], _∷_, _++_}
 use Prim.Native.Nat.{ℕ, zero, suc, _+_, _*_, _/_, _%_, _^_, _<_, _≤_}
-use native.Mathlib.Nat.{zero-add, add-zero, zero-lt-suc, pow-le-pow-right, pow-zero, pow-suc, pow-succ', one-mul, zero-mul, add-mul, mul-assoc, div-add-mod', div-lt-iff-lt-mul, div-div-eq-div-mul, div-one, mod-lt, min-le-left, lt-of-lt-of-le}
+use native.Mathlib.Nat.{zero-add, add-zero, zero-lt-suc, pow-le-pow-right, pow-zero, pow-suc, pow-succ', zero-mul, add-mul, mul-assoc, div-add-mod', div-lt-iff-lt-mul, div-div-eq-div-mul, div-one, mod-lt, min-le-left, lt-of-lt-of-le}
 use native.Mathlib.Numerals.{add-one}
 use native.Mathlib.Omega.{arith}
 use lib.Arith.{digits-lt, digits-div, digits-mod}
 use lib.ListN.{length, take, drop, getD, length-append, length-take, length-drop}
-use lib.Seq.{take-suc, getD-drop, take-append-seam, drop-append-add}
+use lib.Seq.{take-suc, getD-drop}
 use borrow.Author.Tests.{ltb-true, lt-ltb}
 use Rattle.base.specs.Bytes.{numFrom, num, bytesOf, isByte, isBytes}
 use Rattle.base.specs.Laws.Tests.{and-l, and-r, and-i}

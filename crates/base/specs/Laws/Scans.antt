@@ -10,7 +10,7 @@ use lib.Dec.{leb}
 use lib.ListN.{length, take, drop, getD, length-take, drop-of-length-le}
 use lib.Seq.{take-suc, drop-cons, getD-take, take-take, take-all, take-length, split-at}
 use borrow.Author.Tests.{eq-eqb, ne-eqb, leb-true, leb-false}
-use Rattle.base.specs.Lists.{any, all, first, firstAt, has, copies, once}
+use Rattle.base.specs.Lists.{any, all, firstAt, has, copies, once}
 use Rattle.base.specs.Laws.Tests.{byTest, eqb-same}
 use Rattle.base.specs.Laws.Counting.{has-some, copies-append, once-copies, once-snoc}
 

@@ -6,7 +6,7 @@ use mathlib.Core.List.{List, [], _++_, append-assoc, append-nil}
 use Prim.Native.Nat.{ℕ, _+_, _-_, _≤_}
 use native.Mathlib.Omega.{arith}
 use lib.ListN.{length, take, drop, length-append, length-drop, drop-of-length-le}
-use lib.Seq.{take-at, drop-at, drop-drop, length-take-le, take-all}
+use lib.Seq.{drop-drop, length-take-le, take-all}
 use Rattle.base.specs.Lists.{over}
 use Rattle.base.specs.Laws.Over.{take-over, drop-over}
 use Rattle.frames.specs.Writing.{written, writtenOver}

@@ -2,7 +2,7 @@
 use Prim.Native.Nat.{ℕ}
 use mathlib.Core.Path.{ap, ap₂, _∙_}
 use lib.ListN.{take}
-use Rattle.interval.specs.Retrieve.{retrieveIn, retrieveGives}
+use Rattle.interval.specs.Retrieve.{retrieveIn}
 use Rattle.monitor.specs.Answers.{saying}
 use Rattle.monitor.proofs.Asking.{told}
 use Rattle.monitor.proofs.Handed.{handed-small}
