@@ -31,12 +31,6 @@ module _ {A : Type 0} where
   pub over-front : (ks l : List A) (i : ℕ) (d : A) → i < length ks → getD (over ks l) i d ≡ getD ks i d
   over-front ks l i d h = List·getD-append ks (drop (length ks) l) d i h
 
-  pub over-drop : (ks l : List A) (n : ℕ) → length ks ≤ n → drop n (over ks l) ≡ drop n l
-  over-drop ks l n h =
-      let e : length ks + (n - length ks) ≡ n = omega arith in
-      ap (λ (m : ℕ). drop m (over ks l)) (sym e) ∙ drop-append-add ks (drop (length ks) l) (n - length ks)
-      ∙ drop-drop (n - length ks) (length ks) l ∙ ap (λ (m : ℕ). drop m l) e
-
   -- one more is written
   pub over-snoc : (ks l : List A) (v : A) → over (ks ++ (v ∷ [])) l ≡ ks ++ (v ∷ drop (suc (length ks)) l)
   over-snoc ks l v = rw (length-append ks (v ∷ []), add-one (length ks)) (append-snoc ks v (drop (suc (length ks)) l))

@@ -37,9 +37,6 @@ module _ (w : ℕ) (out e ys : List ℕ) (h : w + length e ≤ length out) (is :
       ∙ ap (λ (r : List ℕ). e ++ r) (drop-drop (length e) w out))
       ∙ sym (append-assoc (take w out) e (drop (w + length e) out))
 
-  head-long : length (take w out ++ e) ≡ w + length e
-  head-long = length-append (take w out) e ∙ ap (λ (k : ℕ). k + length e) (length-take-le w out (omega arith))
-
   -- where the buffer holds what was written before, over the buffer as it was lent
   pub over-put-tail : (es out₀ : List ℕ) → out ≡ over es out₀ → w ≡ length es → putTail w out ys ≡ over (es ++ e) out₀
   over-put-tail es out₀ o n =
