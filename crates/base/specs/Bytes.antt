@@ -1,9 +1,11 @@
--- Numbers from bytes and bytes from numbers, big end first, of any width; and names.
+-- Numbers from bytes and bytes from numbers, big end first, of any width; names; and bytes stored among bytes.
 use Prim.Native.Nat.{ℕ, suc, zero, _+_, _*_, _/_, _%_, _^_}
 use mathlib.Core.Bool.{Bool, true, false, not, _&&_}
 use mathlib.Core.List.{List, [], _∷_, _++_}
-use lib.ListN.{take, drop, replicate}
-use lib.Dec.{ltb, eqb}
+use lib.ListN.{length, take, drop, replicate}
+use lib.Seq.{paste}
+use lib.Dec.{leb, ltb, eqb}
+use Rattle.base.specs.Choice.{pick}
 use Rattle.base.specs.Lists.{all}
 
 -- a, followed by the bytes
@@ -33,3 +35,7 @@ blank w = numFrom 0 (replicate w 0x20)
 -- a name of w bytes that is not blank
 abbrev pub isName : ℕ → ℕ → Bool
 isName w n = ltb n (256 ^ w) && not (eqb n (blank w))
+
+-- the bytes of s from a place on, and nothing where they do not fit
+unfoldable pub stored : List ℕ → ℕ → List ℕ → List ℕ
+stored d at s = pick (leb (at + length s) (length d)) (paste d at s (length s)) d

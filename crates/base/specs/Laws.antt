@@ -5,6 +5,7 @@ pub mod Counting
 pub mod Listed
 pub mod Sorting
 pub mod Bytes
+pub mod Stored
 pub mod Over
 pub mod Scans
 pub mod Gather

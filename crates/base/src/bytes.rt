@@ -1,7 +1,9 @@
 // Bytes as numbers, and bytes laid over bytes.
 ghost use mathlib.Core.Path.{_≡_};
-ghost use Prim.Native.Nat.{_<_};
+ghost use Prim.Native.Nat.{_<_, _+_};
+ghost use lib.Dec.{leb};
 ghost use lib.ListN.{length, take};
+ghost use Rattle.base.specs.Bytes.{stored};
 ghost use Rattle.base.specs.Lists.{over};
 use crate::sets::least;
 
@@ -29,6 +31,30 @@ pub fn lay(d: &mut [u8], s: &[u8])
     let mut i: usize = 0;
     while i < n {
         d[i] = s[i];
+        i += 1;
+    }
+}
+
+// Whether n bytes from a place on fit into `room`, at any place.
+fn fits(at: usize, n: usize, room: usize) -> bool
+    ensures { λ r. ⌜ r ≡ leb (at + n) room ⌝ }
+{
+    if n > room {
+        return false;
+    }
+    at <= room - n
+}
+
+// The bytes of s from a place on, and nothing where they do not fit.
+pub fn store(d: &mut [u8], at: usize, s: &[u8])
+    ensures exact { λ _. ⌜ now (d .exit) ≡ stored (now (d .entry)) at (now (s .entry)) ⌝ }
+{
+    if !fits(at, s.len(), d.len()) {
+        return;
+    }
+    let mut i: usize = 0;
+    while i < s.len() {
+        d[at + i] = s[i];
         i += 1;
     }
 }

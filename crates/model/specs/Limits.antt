@@ -19,17 +19,21 @@ pub record Limits : Type 0 where
   pub interval : ℕ
   pub advance : ℕ
 
-abbrev pub cabinet : Limits
-cabinet = record {
-  programs = 16;
-  terminals = 8;
-  requests = 32;
-  queues = 16;
-  slots = 128;
+-- of so many programs, terminals, requests, queues and slots: the bounds that are the same for every unit stand here
+abbrev pub sized : ℕ → ℕ → ℕ → ℕ → ℕ → Limits
+sized programs terminals requests queues slots = record {
+  programs = programs;
+  terminals = terminals;
+  requests = requests;
+  queues = queues;
+  slots = slots;
   item = 64;
   interval = 359_999_000;
   advance = 1_000_000_000;
 }
+
+abbrev pub cabinet : Limits
+cabinet = sized 16 8 32 16 128
 
 -- "item length | 1..64 bytes"
 abbrev pub isItem : Limits → List ℕ → Bool

@@ -1,6 +1,7 @@
 -- Conditions, and a command as a plan: its checks in order, and its effect where none of them holds.
 -- One definition obeys a plan, so what is true of all commands is proved at once.
 use Prim.Native.Nat.{ℕ, suc, zero}
+use mathlib.Core.Path.{_≡_}
 use mathlib.Core.Bool.{Bool}
 use mathlib.Core.List.{List, [], _∷_}
 use lib.ListN.{length, take}
@@ -93,3 +94,9 @@ module _ {S T : Type 0} where
 
   abbrev pub planIn : (T → S) → Plan T → Plan S
   planIn put p = record { checks = p .checks; effect = outcomeIn put (p .effect) }
+
+-- What it is for tables of another kind to follow the model: with what they stand for, an outcome over them is what the plan comes to from m;
+-- and they are sound after it.
+pub record Follows {S M : Type 0} (stands : S → M) (Sound : S → Type 0) (o : Outcome S) (m : M) (p : Plan M) : Type 0 where
+  pub outcome : outcomeIn stands o ≡ obey m (firstOf (p .checks)) (p .effect)
+  pub soundly : Sound (o .state)

@@ -1,0 +1,2 @@
+pub mod Define
+pub mod Part

@@ -1,0 +1,14 @@
+pub mod Rows
+pub mod Table
+pub mod Circle
+pub mod Stands
+pub mod Typed
+pub mod Remove
+pub mod Cancel
+pub mod Active
+pub mod Start
+pub mod Dispatch
+pub mod Retrieve
+pub mod Advance
+pub mod Fresh
+pub mod Laws
