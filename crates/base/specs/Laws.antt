@@ -15,3 +15,4 @@ pub mod Removing
 pub mod Index
 pub mod Told
 pub mod Unique
+pub mod Placing

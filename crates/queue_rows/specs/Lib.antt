@@ -1,0 +1,10 @@
+pub mod Table
+pub mod Model
+pub mod Sound
+pub mod Fresh
+pub mod Place
+pub mod Append
+pub mod Read
+pub mod Rewrite
+pub mod Delete
+pub mod Laws
