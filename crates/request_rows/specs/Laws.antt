@@ -15,9 +15,11 @@ pub mod Kept
 pub mod KeptParts
 pub mod Lapse
 pub mod Made
+pub mod Moved
 pub mod Plans
 pub mod Remove
 pub mod Retrieve
+pub mod Runs
 pub mod Slots
 pub mod Standing
 pub mod Start

@@ -12,3 +12,6 @@ pub mod Retrieve
 pub mod Advance
 pub mod Fresh
 pub mod Laws
+pub mod Runs
+pub mod Examples
+pub mod AdvanceExamples
