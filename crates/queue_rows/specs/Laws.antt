@@ -22,3 +22,5 @@ pub mod Kept
 pub mod Every
 pub mod Runs
 pub mod Space
+pub mod Columns
+pub mod Slots

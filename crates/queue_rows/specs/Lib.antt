@@ -1,4 +1,5 @@
 pub mod Table
+pub mod Layout
 pub mod Model
 pub mod Sound
 pub mod Fresh
