@@ -1,0 +1,10 @@
+pub mod Lines
+pub mod View
+pub mod Lent
+pub mod Standing
+pub mod Set
+pub mod Decide
+pub mod Forget
+pub mod Typed
+pub mod Kept
+pub mod Every
