@@ -5,7 +5,6 @@ ghost use Prim.Native.Nat.{_+_, _≤_};
 ghost use lib.ListN.{length, getD, set};
 ghost use Rattle.request_rows.specs.Rows.{row, isExpired, isActive, notTaken, phaseOf, phaseWord, decode, encode, inPhase, noRow};
 ghost use Rattle.request_rows.specs.Table.{viewOf, registerOf, live, withRow};
-use words::cells::put_word;
 use words::cells::word_at;
 
 // "Each request is in one phase: waiting with its due tick, expired, or active (data taken or not)."
@@ -175,6 +174,6 @@ pub fn put_phase(t: &mut [u64], i: usize, p: Phase)
     ensures exact { λ _. ⌜ viewOf (now (t .exit)) ≡ withRow (viewOf (now (t .entry))) i (inPhase p (getD (viewOf (now (t .entry)) .rows) i noRow)) ⌝ }
 {
     if i < rows(t) {
-        put_word(t, 2 + i * 4 + 2, phase_word(p));
+        t[2 + i * 4 + 2] = phase_word(p);
     }
 }

@@ -13,28 +13,30 @@ use Rattle.request_rows.proofs.put_phase.Tie as tie
 rows-requires : tie.Need-rows-requires
 rows-requires c κs = search needs
 
-mul-put-word : tie.Need-mul-put-word
-mul-put-word c = omega (arith, rows-in (c .before .before .before .before .before .args .t .now))
-
-add-put-word : tie.Need-add-put-word
-add-put-word c = omega (arith, rows-in (c .before .before .before .before .before .args .t .now))
-
-add-put-word-2 : tie.Need-add-put-word-2
-add-put-word-2 c = omega (arith, rows-in (c .before .before .before .before .before .args .t .now))
-
 phase-word-requires : tie.Need-phase-word-requires
 phase-word-requires c κs = search needs
 
-put-word-requires : tie.Need-put-word-requires
-put-word-requires c κs = search needs
+mul-t : tie.Need-mul-t
+mul-t c = omega (arith, rows-in (c .before .before .before .before .before .args .t .now))
+
+add-t : tie.Need-add-t
+add-t c = omega (arith, rows-in (c .before .before .before .before .before .args .t .now))
+
+add-t-2 : tie.Need-add-t-2
+add-t-2 c = omega (arith, rows-in (c .before .before .before .before .before .args .t .now))
+
+mul-t-2 : tie.Need-mul-t-2
+mul-t-2 c = omega (arith, rows-in (c .before .before .before .before .before .args .t .now))
+
+slice-write-t : tie.Need-slice-write-t
+slice-write-t c = omega (arith, rows-in (c .before .before .before .before .before .args .t .now))
 
 same-length : tie.Need-same-length
 same-length c = search needs
 
 returns : tie.Need-returns
-returns c = let a = c .before .before .before .before .before .before .before .before .before .args in
-    ap viewOf (c .before .before .put-word .ensures ∙ ap (λ (x : ℕ). set (a .t .now) (2 + a .i * 4 + 2) x) (c .before .before .before .phase-word .ensures))
-    ∙ view-phase (a .t .now) (a .i) (a .p) (omega arith)
+returns c = let a = c .before .before .before .before .before .args in
+    ap (λ (x : ℕ). viewOf (set (a .t .now) (2 + a .i * 4 + 2) x)) (c .phase-word .ensures) ∙ view-phase (a .t .now) (a .i) (a .p) (omega arith)
 
 same-length-2 : tie.Need-same-length-2
 same-length-2 c = search needs
@@ -48,11 +50,12 @@ put-phase-spec =
     tie.close
     (tie.spec
     rows-requires
-    mul-put-word
-    add-put-word
-    add-put-word-2
     phase-word-requires
-    put-word-requires
+    mul-t
+    add-t
+    add-t-2
+    mul-t-2
+    slice-write-t
     same-length
     returns
     same-length-2

@@ -1,11 +1,13 @@
 -- Words as rows of four: each view undoes the other, and what a read, a store or a part of the words is of the rows. Assumes nothing.
 use Prim.Native.Nat.{ℕ, zero, suc, _+_, _*_, _-_, _/_, _<_, _≤_}
 use mathlib.Core.Path.{_≡_, refl, sym, ap, ap₂, _∙_}
-use mathlib.Core.List.{List, [], _∷_, _++_, append-nil}
+use mathlib.Core.List.{List, [], _∷_, _++_, append-nil, append-assoc}
 use native.Mathlib.Omega.{arith}
-use lib.ListN.{length, take, drop, getD, set, length-append, length-drop, drop-of-length-le}
-use lib.Seq.{take-all, take-append-seam, drop-append-seam}
-use Rattle.base.specs.Lists.{over}
+use lib.ListN.{length, take, drop, getD, set, length-append, length-drop, drop-of-length-le, length-take, take-append-drop}
+use lib.Seq.{take-all, take-append-seam, drop-append-seam, drop-append-le}
+use Rattle.base.specs.Lists.{over, cutAt}
+use Rattle.base.specs.Laws.Cut.{length-cut}
+use Rattle.words.specs.Rows.{shut}
 use Rattle.request_rows.specs.declared.Phase.{Phase}
 use Rattle.request_rows.specs.Rows.{Row, row, noRow, rowsOf, restOf, wordsOf, flat, phaseWord, inPhase}
 
@@ -54,6 +56,10 @@ length-words (q ∷ rs) = let e = length-words rs in omega arith
 pub words-append : (a b : List Row) (t : List ℕ) → flat (a ++ b) t ≡ wordsOf a ++ flat b t
 words-append [] b t = refl
 words-append (q ∷ a) b t = ap (λ (r : List ℕ). q .name ∷ q .who ∷ q .phase ∷ q .rest ∷ r) (words-append a b t)
+
+words-both : (a b : List Row) → wordsOf (a ++ b) ≡ wordsOf a ++ wordsOf b
+words-both [] b = refl
+words-both (q ∷ a) b = ap (λ (r : List ℕ). q .name ∷ q .who ∷ q .phase ∷ q .rest ∷ r) (words-both a b)
 
 -- ---- at a place
 
@@ -143,3 +149,40 @@ done-front f n w p h k done =
 
 pub front-rows : (n : ℕ) (w : List ℕ) → n ≤ length (rowsOf w) → rowsOf (take (n * 4) w) ≡ take n (rowsOf w)
 front-rows n w h = ap (λ r. rowsOf (take (n * 4) r)) (sym (rows-flat w)) ∙ ap rowsOf (take-words (restOf w) (rowsOf w) n h) ∙ words-rows (take n (rowsOf w))
+
+-- ---- a row less
+
+-- words of rows alone
+pub take-rows : (rs : List Row) (h : ℕ) → h ≤ length rs → take (h * 4) (wordsOf rs) ≡ wordsOf (take h rs)
+take-rows rs h k = ap (take (h * 4)) (sym (append-nil (wordsOf rs))) ∙ take-words [] rs h k
+
+pub drop-rows : (rs : List Row) (h : ℕ) → h ≤ length rs → drop (h * 4) (wordsOf rs) ≡ wordsOf (drop h rs)
+drop-rows rs h k = ap (drop (h * 4)) (sym (append-nil (wordsOf rs))) ∙ drop-words [] rs h k ∙ append-nil (wordsOf (drop h rs))
+
+words-over : (ks l : List Row) → length ks ≤ length l → over (wordsOf ks) (wordsOf l) ≡ wordsOf (over ks l)
+words-over ks l h =
+    ap (λ (n : ℕ). wordsOf ks ++ drop n (wordsOf l)) (length-words ks) ∙ ap (λ (r : List ℕ). wordsOf ks ++ r) (drop-rows l (length ks) h)
+    ∙ sym (words-both ks (drop (length ks) l))
+
+-- the four words of row i go
+pub shut-words : (l : List Row) (i : ℕ) → i < length l → shut (i * 4) 4 (wordsOf l) ≡ wordsOf (over (cutAt i l) l)
+shut-words l i h =
+    let e : i * 4 + 4 ≡ suc i * 4 = omega arith in
+    let f : take (i * 4) (wordsOf l) ++ drop (i * 4 + 4) (wordsOf l) ≡ wordsOf (cutAt i l) =
+    ap₂ (λ (x y : List ℕ). x ++ y) (take-rows l i (omega arith)) (ap (λ (n : ℕ). drop n (wordsOf l)) e ∙ drop-rows l (suc i) (omega arith))
+    ∙ sym (words-both (take i l) (drop (suc i) l)) in
+    ap (λ (x : List ℕ). over x (wordsOf l)) f ∙ words-over (cutAt i l) l (omega (arith, length-cut i l h))
+
+-- of the first m rows, and all else stays
+pub rows-shut : (w : List ℕ) (i m : ℕ) (l : List Row) → l ≡ take m (rowsOf w) → i < m → m ≤ length (rowsOf w)
+    → shut (i * 4) 4 (wordsOf l) ++ drop (m * 4) w ≡ flat (over (cutAt i l) (rowsOf w)) (restOf w)
+rows-shut w i m l e h b =
+    let n : length l ≡ m = ap length e ∙ simp length-take (omega arith) in
+    let k : length (cutAt i l) ≤ length l = omega (arith, length-cut i l (omega arith)) in
+    let d : drop (m * 4) w ≡ flat (drop m (rowsOf w)) (restOf w) = ap (drop (m * 4)) (sym (rows-flat w)) ∙ drop-words (restOf w) (rowsOf w) m b in
+    let j : l ++ drop m (rowsOf w) ≡ rowsOf w = ap (λ (x : List Row). x ++ drop m (rowsOf w)) e ∙ take-append-drop m (rowsOf w) in
+    let o : over (cutAt i l) l ++ drop m (rowsOf w) ≡ over (cutAt i l) (rowsOf w) =
+    append-assoc (cutAt i l) (drop (length (cutAt i l)) l) (drop m (rowsOf w))
+    ∙ ap (λ (x : List Row). cutAt i l ++ x) (sym (drop-append-le (length (cutAt i l)) l (drop m (rowsOf w)) k) ∙ ap (drop (length (cutAt i l))) j) in
+    ap₂ (λ (x y : List ℕ). x ++ y) (shut-words l i (omega arith)) d
+    ∙ sym (words-append (over (cutAt i l) l) (drop m (rowsOf w)) (restOf w)) ∙ ap (λ (x : List Row). flat x (restOf w)) o

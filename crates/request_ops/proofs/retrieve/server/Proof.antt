@@ -1,0 +1,71 @@
+-- `retrieve::server` meets its contract: none of the rows that were passed serves. Assumes nothing.
+use Prim.Native.Nat.{_-_}
+use mathlib.Core.Path.{sym, ap, _∙_}
+use lib.ListN.{getD, length}
+use borrow.Author.Needs.{needs}
+use Rattle.base.specs.Laws.Seeking.{Sought, seeks-hit, seeks-on, seeks-end}
+use Rattle.request_ops.specs.Laws.Retrieve.{serves-row}
+use Rattle.request_ops.specs.Retrieve.{serving}
+use Rattle.request_rows.specs.Laws.View.{live-sought}
+use Rattle.request_rows.specs.Retrieve.{serves}
+use Rattle.request_rows.specs.Table.{viewOf}
+use Rattle.request_rows.specs.Rows.{noRow}
+use Rattle.request_ops.proofs.retrieve.server.Statement.{statement}
+use Rattle.request_ops.proofs.retrieve.server.Tie as tie
+
+abbrev Inv-loop : tie.InvT-loop
+Inv-loop requests area program terminal m i₀ i = Sought (serves area program terminal) (viewOf requests .rows) (viewOf requests .count) (length (viewOf requests .rows)) m i
+
+abbrev μ-loop : tie.MeasureT-loop
+μ-loop requests area program terminal m i₀ i = m - i
+
+count-requires : tie.Need-count-requires Inv-loop μ-loop
+count-requires c κs = search needs
+
+loop-holds : tie.Need-loop-holds Inv-loop μ-loop
+loop-holds c = let a = c .before .before .before .args in live-sought (a .requests .now) (serves (a .area .now) (a .program) (a .terminal)) _ (c .count .ensures)
+
+request-at-requires : tie.Need-request-at-requires Inv-loop μ-loop
+request-at-requires c κs = search needs
+
+serves-requires : tie.Need-serves-requires Inv-loop μ-loop
+serves-requires c κs = search needs
+
+returns : tie.Need-returns Inv-loop μ-loop
+returns c = let a = c .before .before .before .before .before .before .before .before .args in
+    let area = a .area .now in
+    seeks-hit (c .before .before .before .before .loop .inv) (c .before .before .before .loop-test .taken) noRow
+    (sym (c .before .serves .ensures ∙ ap (serving (length area) (a .program) (a .terminal)) (c .before .before .request-at .ensures)
+    ∙ serves-row area (getD (viewOf (a .requests .now) .rows) (c .before .before .before .before .loop .i) noRow) (a .program) (a .terminal)) ∙ c .if1 .taken)
+
+add-i : tie.Need-add-i Inv-loop μ-loop
+add-i c = search needs
+
+loop-less : tie.Need-loop-less Inv-loop μ-loop
+loop-less c = search needs
+
+loop-again : tie.Need-loop-again Inv-loop μ-loop
+loop-again c = let a = c .before .before .before .before .before .before .before .before .args in
+    let area = a .area .now in
+    seeks-on (c .before .before .before .before .loop .inv) (c .before .before .before .loop-test .taken) noRow
+    (sym (c .before .serves .ensures ∙ ap (serving (length area) (a .program) (a .terminal)) (c .before .before .request-at .ensures)
+    ∙ serves-row area (getD (viewOf (a .requests .now) .rows) (c .before .before .before .before .loop .i) noRow) (a .program) (a .terminal)) ∙ c .if1 .left)
+
+returns-2 : tie.Need-returns-2 Inv-loop μ-loop
+returns-2 c = seeks-end (c .before .loop .inv) (c .loop-test .left)
+
+pub server-spec : {M : Type 1} → statement M
+server-spec =
+    tie.close
+    (tie.spec
+    Inv-loop
+    μ-loop
+    count-requires
+    loop-holds
+    request-at-requires
+    serves-requires
+    returns
+    add-i
+    loop-less
+    loop-again
+    returns-2)

@@ -1,0 +1,4 @@
+pub mod Start
+pub mod Dispatch
+pub mod Retrieve
+pub mod Laws
