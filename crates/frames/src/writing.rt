@@ -2,7 +2,7 @@
 ghost use mathlib.Core.Path.{_≡_};
 ghost use Prim.Native.Nat.{_+_, _<_, _≤_};
 ghost use lib.ListN.{length};
-ghost use lib.Seq.{paste, sets};
+ghost use lib.Seq.{paste};
 ghost use Rattle.model.specs.Lists.{encoded};
 ghost use Rattle.frames.specs.Writing.{carried, headOf, answerOf, written, writtenOver};
 
@@ -42,16 +42,19 @@ fn carried(bytes: &[u8], len: usize) -> usize
     n
 }
 
-// The ten bytes before them.
-fn put_head(out: &mut [u8], condition: u8, action: u8, label: u16, number: u32, n: usize)
-    requires { ⌜ (10 ≤ length (now out)) × (n ≤ 64) ⌝ }
-    ensures { λ _. ⌜ now (out .exit) ≡ sets (now (out .entry)) 0 (headOf condition action label number n) ⌝ }
+// The ten bytes before an answer's own, of which there are n. Where the buffer has no room for them it is as it was.
+pub fn put_head(out: &mut [u8], condition: u8, action: u8, label: u16, number: u32, n: usize)
+    ensures exact { λ _. ⌜ now (out .exit) ≡ writtenOver (headOf condition action label number n) (now (out .entry)) .buffer ⌝ }
 {
+    if out.len() < 10 {
+        return;
+    }
+    let size = 8 + n % 65536;
     let low = number / 256;
     let mid = low / 256;
     let high = mid / 256;
-    out[0] = ((8 + n) / 256 % 256) as u8;
-    out[1] = ((8 + n) % 256) as u8;
+    out[0] = (size / 256 % 256) as u8;
+    out[1] = (size % 256) as u8;
     out[2] = condition;
     out[3] = action;
     out[4] = (label / 256 % 256) as u8;

@@ -23,4 +23,3 @@ pub mod Every
 pub mod Runs
 pub mod Space
 pub mod Columns
-pub mod Slots

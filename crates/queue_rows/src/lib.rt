@@ -1,6 +1,10 @@
-// Queues in lent words: where each column lies.
+// Queues in lent words: where each column lies, and the words of occupancy.
+ghost use mathlib.Core.Path.{_≡_};
+ghost use lib.ListN.{getD};
 ghost use Rattle.queue_rows.specs.Layout.{Laid, Sized};
 use base::sets::least;
+use slots::Used;
+use words::cells::word_at;
 
 // Where the columns begin, one behind the other, and how many rows and slots there are.
 pub struct Columns {
@@ -34,5 +38,15 @@ pub fn layout(words: usize, bytes: usize) -> Columns
         len,
         rows,
         slots,
+    }
+}
+
+// The two words of occupancy.
+pub fn used(queues: &[u64]) -> Used
+    ensures exact { λ r. ⌜ r ≡ record { lo = getD (now (queues .entry)) 1 0; hi = getD (now (queues .entry)) 2 0 } ⌝ }
+{
+    Used {
+        lo: word_at(queues, 1),
+        hi: word_at(queues, 2),
     }
 }

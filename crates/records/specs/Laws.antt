@@ -1,24 +1,26 @@
--- The bytes that are there are all that a number or the rest has; a number byte by byte; no command but 1..17 has a row; the test
--- of a record's form by its row.
+-- The bytes that are there are all that a number or the rest has; a number byte by byte; no command but 1..17 has a row; the tests
+-- of a record's form and of its issuer's kind by its row.
 -- Assumes nothing.
 use mathlib.Core.Path.{_≡_, refl, sym, ap, _∙_}
-use mathlib.Core.Bool.{false}
 use mathlib.Core.List.{List}
 use Prim.Native.Nat.{ℕ, zero, suc, _+_, _*_, _-_, _^_, _<_, _≤_, min}
 use native.Mathlib.Nat.{min-eq-left, min-eq-right, pow-suc, pow-le-pow-right, zero-lt-suc, le-of-suc-le-suc, lt-of-lt-of-le}
 use native.Mathlib.Numerals.{add-one}
 use native.Mathlib.Omega.{arith}
 use lib.ListN.{length, take, drop, getD, length-drop, drop-of-length-le, List·getD-eq-default}
-use lib.Dec.{leb}
+use lib.Dec.{leb, eqb}
 use lib.Seq.{take-all, take-length, drop-length}
-use borrow.Author.Tests.{leb-true, leb-false, le-leb, lt-leb}
-use Rattle.base.specs.Bytes.{num, numFrom}
+use borrow.Author.Tests.{leb-true, leb-false}
+use Rattle.base.specs.Bytes.{num, numFrom, blank}
 use Rattle.base.specs.Laws.Tests.{byTest}
 use Rattle.base.specs.Laws.Bytes.{num-suc}
-use Rattle.model.specs.Commands.{command, table, noRow, rowOf, fits, formed, Who, wrongKind}
-use Rattle.records.specs.Rows.{sizeOf, whoOf}
+use Rattle.model.specs.Commands.{command, Size, table, noRow, rowOf, fits, formed, Who, wrongKind}
+use Rattle.records.specs.Rows.{sizeOf, whoOf, parts, partOf, Columns, shapedAs, shutTo}
 use Rattle.records.specs.declared.Extent.{Extent}
 use Rattle.records.specs.declared.Kind.{Kind}
+use Rattle.records.specs.declared.Kind.the-variants.{Anyone, System, Task}
+use Rattle.records.specs.declared.Part.the-variants.{Interval}
+use Rattle.records.specs.declared.Row.{Row}
 
 take-min : {A : Type 0} (k : ℕ) (l : List A) → take (min k (length l)) l ≡ take k l
 take-min k l =
@@ -84,21 +86,26 @@ past (suc k) n u h =
     omega arith
 
 -- "command not 1..17"
-pub no-row : (n : ℕ) → Unlike 17 n → rowOf n ≡ noRow
-no-row zero u = refl
-no-row (suc n) u = List·getD-eq-default table noRow (le-of-suc-le-suc (past 17 (suc n) u (zero-lt-suc n)))
-
-pub formed-short : (l : List ℕ) → length l < 9 → formed l ≡ false
-unfolding formed
-formed-short l h = rw (lt-leb 9 (length l) h)
-
-pub formed-long : (l : List ℕ) → 9 ≤ length l → formed l ≡ fits (rowOf (command l) .size) (length l - 9)
-unfolding formed
-formed-long l h = rw (le-leb 9 (length l) h)
+pub no-row : (n : ℕ) → Unlike 17 n → (rowOf n ≡ noRow) × (partOf n ≡ Interval)
+no-row zero u = (refl, refl)
+no-row (suc n) u =
+    let h : 17 ≤ n = le-of-suc-le-suc (past 17 (suc n) u (zero-lt-suc n)) in
+    (List·getD-eq-default table noRow h, List·getD-eq-default parts Interval h)
 
 -- in an arm that knows the answer x to be k
 pub by-size : (n : ℕ) {x k : Extent} → x ≡ k → fits (sizeOf k) n ≡ fits (sizeOf x) n
 by-size n e = ap (λ (z : Extent). fits (sizeOf z) n) (sym e)
 
-pub by-kind : (n : ℕ) {x k : Kind} {w : Who} → x ≡ k → whoOf x ≡ w → wrongKind (whoOf k) n ≡ wrongKind w n
-by-kind n e f = ap (λ (z : Who). wrongKind z n) (ap whoOf (sym e) ∙ f)
+-- a blank issuer is the system
+pub kind-of : (k : Kind) (n : ℕ) → shutTo k (eqb n (blank 8)) ≡ wrongKind (whoOf k) n
+kind-of Anyone n = refl
+kind-of System n = refl
+kind-of Task n = refl
+
+module _ (n : ℕ) (r : Row) (c : Columns n r) where
+  pub shaped-row : (l : List ℕ) → n ≡ command l → shapedAs (sizeOf (r .0)) l ≡ formed l
+  unfolding formed
+  shaped-row l e = ap (λ (z : Size). shapedAs z l) (c .size) ∙ ap (λ (m : ℕ). shapedAs (rowOf m .size) l) e
+
+  pub shut-row : (k : ℕ) → shutTo (r .1) (eqb k (blank 8)) ≡ wrongKind (rowOf n .who) k
+  shut-row k = kind-of (r .1) k ∙ ap (λ (w : Who). wrongKind w k) (c .who)

@@ -1,17 +1,16 @@
-// What one record says: "command byte, 8-byte issuer, operands" (document 01, "The list and the answers"), and the two columns
-// of the table of commands that need no table: the size of the operands and the kind of the issuer.
+// What one record says: "command byte, 8-byte issuer, operands" (document 01, "The list and the answers"), and the columns of the table of commands that
+// need no table: the size of the operands, the kind of the issuer, and the part that obeys.
 // No function requires anything: each answers for every slice of bytes.
 ghost use mathlib.Core.Path.{_≡_};
 ghost use Prim.Native.Nat.{_-_, _^_, _<_, min};
 ghost use lib.ListN.{length, drop};
 ghost use Rattle.base.specs.Bytes.{num};
 ghost use Rattle.model.specs.Commands.{command, issuer, fits, formed, wrongKind, rowOf};
-ghost use Rattle.records.specs.Rows.{sizeOf, whoOf};
+ghost use Rattle.records.specs.Rows.{sizeOf, shapedAs, shutTo, Columns};
+use base::bytes::wide;
 use base::bytes::wide64;
+use base::names::BLANK;
 use base::sets::least;
-
-// "A name of spaces only (hex 20) is blank.", of 8 bytes.
-const BLANK: u64 = 0x2020202020202020;
 
 // How many bytes stand at a place and behind it.
 fn behind(rec: &[u8], at: usize) -> usize
@@ -56,6 +55,19 @@ pub fn number1_at(rec: &[u8], at: usize) -> u8
     number_at(rec, at, 1) as u8
 }
 
+// A room, and a place in a queue: as places and lengths are reckoned.
+pub fn room_at(rec: &[u8], at: usize) -> usize
+    ensures exact { λ r. ⌜ r ≡ num at 1 (now (rec .entry)) ⌝ }
+{
+    wide(number1_at(rec, at))
+}
+
+pub fn place_at(rec: &[u8], at: usize) -> usize
+    ensures exact { λ r. ⌜ r ≡ num at 2 (now (rec .entry)) ⌝ }
+{
+    number2_at(rec, at) as usize
+}
+
 pub fn name_at(rec: &[u8], at: usize) -> u64
     ensures exact { λ r. ⌜ r ≡ num at 8 (now (rec .entry)) ⌝ }
 {
@@ -96,36 +108,46 @@ pub enum Kind {
     Task,
 }
 
-pub struct Row(pub Extent, pub Kind);
+// The part that obeys a command. A task that finishes leaves two of them.
+pub enum Part {
+    Interval,
+    Finish,
+    Queues,
+    Settings,
+}
+
+pub struct Row(pub Extent, pub Kind, pub Part);
 
 // The table of commands, by their numbers. A command "not 1..17" has operands that never fit.
 pub fn row_of(command: u8) -> Row
-    ensures exact { λ r. ⌜ (sizeOf (r .0) ≡ rowOf command .size) × (whoOf (r .1) ≡ rowOf command .who) ⌝ }
+    ensures exact { λ r. ⌜ Columns command r ⌝ }
 {
     match command {
-        1 => Row(Extent::Exactly(4), Kind::System), // define program
-        2 => Row(Extent::Exactly(4), Kind::System), // define terminal
-        3 => Row(Extent::Exactly(4), Kind::System), // advance
-        4 => Row(Extent::Exactly(0), Kind::Anyone), // ask ticks
-        5 => Row(Extent::Exactly(0), Kind::System), // dispatch
-        6 => Row(Extent::AtLeast(20), Kind::Anyone), // start
-        7 => Row(Extent::Exactly(8), Kind::Anyone), // cancel
-        8 => Row(Extent::Exactly(1), Kind::Task), // retrieve
-        9 => Row(Extent::Exactly(0), Kind::Task), // finish
-        10 => Row(Extent::AtLeast(8), Kind::Anyone), // append
-        11 => Row(Extent::Exactly(9), Kind::Anyone), // read next
-        12 => Row(Extent::Exactly(11), Kind::Anyone), // read at
-        13 => Row(Extent::AtLeast(10), Kind::Anyone), // rewrite
-        14 => Row(Extent::Exactly(8), Kind::Anyone), // delete queue
-        15 => Row(Extent::Exactly(3), Kind::Task), // handle
-        16 => Row(Extent::Exactly(1), Kind::Task), // ignore
-        17 => Row(Extent::Exactly(1), Kind::Task), // reset
-        _ => Row(Extent::Never, Kind::Anyone),
+        1 => Row(Extent::Exactly(4), Kind::System, Part::Interval), // define program
+        2 => Row(Extent::Exactly(4), Kind::System, Part::Interval), // define terminal
+        3 => Row(Extent::Exactly(4), Kind::System, Part::Interval), // advance
+        4 => Row(Extent::Exactly(0), Kind::Anyone, Part::Interval), // ask ticks
+        5 => Row(Extent::Exactly(0), Kind::System, Part::Interval), // dispatch
+        6 => Row(Extent::AtLeast(20), Kind::Anyone, Part::Interval), // start
+        7 => Row(Extent::Exactly(8), Kind::Anyone, Part::Interval), // cancel
+        8 => Row(Extent::Exactly(1), Kind::Task, Part::Interval), // retrieve
+        9 => Row(Extent::Exactly(0), Kind::Task, Part::Finish), // finish
+        10 => Row(Extent::AtLeast(8), Kind::Anyone, Part::Queues), // append
+        11 => Row(Extent::Exactly(9), Kind::Anyone, Part::Queues), // read next
+        12 => Row(Extent::Exactly(11), Kind::Anyone, Part::Queues), // read at
+        13 => Row(Extent::AtLeast(10), Kind::Anyone, Part::Queues), // rewrite
+        14 => Row(Extent::Exactly(8), Kind::Anyone, Part::Queues), // delete queue
+        15 => Row(Extent::Exactly(3), Kind::Task, Part::Settings), // handle
+        16 => Row(Extent::Exactly(1), Kind::Task, Part::Settings), // ignore
+        17 => Row(Extent::Exactly(1), Kind::Task, Part::Settings), // reset
+        _ => Row(Extent::Never, Kind::Anyone, Part::Interval),
     }
 }
 
-fn fits(size: Extent, n: usize) -> bool
-    ensures { λ r. ⌜ r ≡ fits (sizeOf size) n ⌝ }
+// ---- what a record's row says of it: who reads the row asks these, and so reads it once
+
+pub fn fits(size: Extent, n: usize) -> bool
+    ensures exact { λ r. ⌜ r ≡ fits (sizeOf size) n ⌝ }
 {
     match size {
         Extent::Exactly(k) => n == k,
@@ -135,26 +157,41 @@ fn fits(size: Extent, n: usize) -> bool
 }
 
 // "33 malformed (command not 1..17, or operands not of the size below)"; "A record of fewer than 9 bytes is malformed".
-pub fn formed(rec: &[u8]) -> bool
-    ensures exact { λ r. ⌜ r ≡ formed (now (rec .entry)) ⌝ }
+pub fn shaped(size: Extent, rec: &[u8]) -> bool
+    ensures exact { λ r. ⌜ r ≡ shapedAs (sizeOf size) (now (rec .entry)) ⌝ }
 {
     if rec.len() < 9 {
         return false;
     }
-    let row = row_of(rec[0]);
-    let size = row.0;
     fits(size, rec.len() - 9)
 }
 
-// "Any other issuer gets 10, before every condition in the row." A blank issuer is the system.
+// "Any other issuer gets 10, before every condition in the row."
+pub fn shut_to(kind: Kind, system: bool) -> bool
+    ensures exact { λ r. ⌜ r ≡ shutTo kind system ⌝ }
+{
+    match kind {
+        Kind::Anyone => false,
+        Kind::System => !system,
+        Kind::Task => system,
+    }
+}
+
+// ---- the same, of a record whose row was not read before
+
+pub fn formed(rec: &[u8]) -> bool
+    ensures exact { λ r. ⌜ r ≡ formed (now (rec .entry)) ⌝ }
+{
+    let row = row_of(command(rec));
+    let size = row.0;
+    shaped(size, rec)
+}
+
+// A blank issuer is the system.
 pub fn wrong_kind(command: u8, issuer: u64) -> bool
     ensures exact { λ r. ⌜ r ≡ wrongKind (rowOf command .who) issuer ⌝ }
 {
     let row = row_of(command);
     let kind = row.1;
-    match kind {
-        Kind::Anyone => false,
-        Kind::System => issuer != BLANK,
-        Kind::Task => issuer == BLANK,
-    }
+    shut_to(kind, issuer == BLANK)
 }

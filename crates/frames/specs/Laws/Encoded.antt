@@ -9,7 +9,7 @@ use borrow.Author.Tests.{le-leb, lt-leb}
 use Rattle.base.specs.Lists.{over}
 use Rattle.model.specs.Commands.{Answer}
 use Rattle.model.specs.Lists.{encoded}
-use Rattle.frames.specs.Writing.{carried, answerOf, Written, written, writtenOver}
+use Rattle.frames.specs.Writing.{carried, answerOf, headOf, Written, written, writtenOver}
 
 pub length-encoded : (a : Answer) → length (encoded a) ≡ 10 + length (a .bytes)
 length-encoded a = omega arith
@@ -41,3 +41,11 @@ module _ (e b : List ℕ) where
   written-told r after h q =
       let w : written r after ≡ written (length e) (over e b) = q ∙ written-fits h in
       (ap (λ (x : Written). x .count) w, ap (λ (x : Written). x .buffer) w)
+
+-- the ten bytes before an answer's own
+module _ (c a l m n : ℕ) (b : List ℕ) where
+  pub head-fits : 10 ≤ length b → writtenOver (headOf c a l m n) b .buffer ≡ over (headOf c a l m n) b
+  head-fits h = ap (λ (x : Written). x .buffer) (written-fits (headOf c a l m n) b h)
+
+  pub head-not : length b < 10 → writtenOver (headOf c a l m n) b .buffer ≡ b
+  head-not h = ap (λ (x : Written). x .buffer) (written-not (headOf c a l m n) b h)

@@ -1,12 +1,12 @@
 -- The columns of the words: what is lent of them, a word read, and what changes where a word is stored or a part comes back: one column, and
 -- no other. Assumes nothing.
 use Prim.Native.Nat.{ℕ, zero, suc, _+_, _-_, _<_, _≤_, min}
-use mathlib.Core.Path.{_≡_, refl, sym, ap, ap₂, _∙_, subst}
-use mathlib.Core.List.{List, [], _∷_, _++_}
+use mathlib.Core.Path.{_≡_, sym, ap, ap₂, _∙_, subst}
+use mathlib.Core.List.{List, [], _∷_, _++_, append-assoc}
 use native.Mathlib.Omega.{arith}
 use lib.Dec.{leb}
 use lib.ListN.{length, take, drop, getD, set, length-append, length-take, length-drop, length-set}
-use lib.Seq.{take-nil, take-take, drop-drop, take-set-le, take-set-lt, drop-set-lt, drop-set-add, length-take-le, getD-take, getD-drop, getD-set-same, getD-set-other, take-at, drop-at}
+use lib.Seq.{take-nil, take-take, take-append-le, take-append-add, take-add, drop-drop, take-set-le, take-set-lt, drop-set-lt, drop-set-add, length-take-le, getD-take, getD-drop, getD-set-same, getD-set-other, take-at, drop-at}
 use borrow.Author.Tests.{leb-true, leb-false}
 use borrow.Rule.Slice.PartMut.{putMid}
 use Rattle.base.specs.Laws.Tests.{byTest}
@@ -58,6 +58,30 @@ module _ {a k : ℕ} {w v : List ℕ} (s : Apart a k w v) where
 -- a word stored in it, and a part of it put
 pub set-apart : (a k : ℕ) (w : List ℕ) (i x : ℕ) → a ≤ i → i < a + k → Apart a k w (set w i x)
 set-apart a k w i x h g = record { before = take-set-le a w i x h; behind = drop-set-lt (a + k) w i x g }
+
+module _ (a m : ℕ) (w ys : List ℕ) (h : a + m ≤ length w) (e : length ys ≡ m) where
+  left-put : drop a (putMid a m w ys) ≡ ys ++ drop m (drop a w)
+  left-put = drop-at (take a w) (ys ++ drop m (drop a w)) a (length-take-le a w (omega arith))
+
+  pub put-apart : (t k : ℕ) → t ≤ a → a + m ≤ t + k → Apart t k w (putMid a m w ys)
+  put-apart t k b g =
+      let front : length (take a w) ≡ a = length-take-le a w (omega arith) in
+      let all : Apart a m w (putMid a m w ys) = record {
+        before = take-at (take a w) (ys ++ drop m (drop a w)) a front;
+        behind = sym (drop-drop m a (putMid a m w ys)) ∙ ap (drop m) left-put ∙ drop-at ys (drop m (drop a w)) m e ∙ drop-drop m a w;
+      } in
+      record {
+        before = take-append-le t (take a w) (ys ++ drop m (drop a w)) (omega arith) ∙ take-take t a w b;
+        behind = left-behind all (t + k) g;
+      }
+
+  -- the k words from a on, where m of them are put
+  pub part-put : (k : ℕ) → m ≤ k → take k (drop a (putMid a m w ys)) ≡ ys ++ drop m (take k (drop a w))
+  part-put k b =
+      let j : length ys + (k - m) ≡ k = omega arith in
+      let i : m + (k - m) ≡ k = omega arith in
+      ap (take k) left-put ∙ ap (λ (n : ℕ). take n (ys ++ drop m (drop a w))) (sym j) ∙ take-append-add ys (drop m (drop a w)) (k - m)
+      ∙ ap (λ (r : List ℕ). ys ++ r) (part-take m (k - m) (drop a w) ∙ ap (λ (n : ℕ). drop m (take n (drop a w))) i)
 
 -- ---- what is seen then
 
@@ -192,6 +216,9 @@ module _ (w : List ℕ) (x k a t : ℕ) (from : a ≡ min 3 (length w) + x) (fit
   column-here : (i : ℕ) → i < k → a ≡ t
   column-here i h = omega arith
 
+  column-at : 3 ≤ length w → a ≡ t
+  column-at h = omega arith
+
   column-long : length (take k (drop t w)) ≡ k
   column-long = simp (length-take, length-drop) (omega arith)
 
@@ -217,6 +244,15 @@ module _ (w : List ℕ) (x k a t : ℕ) (from : a ≡ min 3 (length w) + x) (fit
 
     column-apart : (y : ℕ) → Apart t k w (set w (a + i) y)
     column-apart y = set-apart t k w (a + i) y (omega (arith, column-here i h)) (omega (arith, column-here i h))
+
+  -- its first m words put
+  module _ (long : 3 ≤ length w) (m : ℕ) (ys : List ℕ) (b : m ≤ k) (e : length ys ≡ m) where
+    column-put : take k (drop t (putMid a m w ys)) ≡ ys ++ drop m (take k (drop t w))
+    column-put =
+        subst (λ (j : ℕ). take k (drop j (putMid a m w ys)) ≡ ys ++ drop m (take k (drop j w))) (column-at long) (part-put a m w ys (omega arith) e k b)
+
+    column-put-apart : Apart t k w (putMid a m w ys)
+    column-put-apart = put-apart a m w ys (omega arith) e t k (omega (arith, column-at long)) (omega (arith, column-at long))
 
 -- how the k words from a on are a column
 pub record Lies (w : List ℕ) (a k : ℕ) (c : List ℕ) : Type 0 where
@@ -254,6 +290,19 @@ module _ (l : Columns) (w : List ℕ) (h : Laid (length w) l) where
   pub len-lies : Lies w (l .len) (l .slots) (seen l w .len)
   len-lies = lies w (l .rows + l .rows + l .slots + l .slots) (l .slots) (l .len) (3 + l .rows + l .rows + l .slots + l .slots) (omega arith) (omega arith) (omega arith)
 
+  -- the columns of the entries stand side by side
+  pub entries-lent : take (l .len - l .owner) (drop (l .owner) w) ≡ seen l w .owner ++ seen l w .slot
+  entries-lent =
+      let s : ℕ = l .slots in
+      let size : l .len - l .owner ≡ s + s = omega arith in
+      let one : l .slot - l .owner ≡ s = omega arith in
+      let two : l .len - l .slot ≡ s = omega arith in
+      ap (λ (k : ℕ). take k (drop (l .owner) w)) size ∙ take-add s s (drop (l .owner) w)
+      ∙ ap₂ (λ (x y : List ℕ). x ++ y)
+      (ap (λ (k : ℕ). take k (drop (l .owner) w)) (sym one) ∙ owner-lies .whole (l .slot) (h .slot))
+      (ap (take s) (drop-drop s (l .owner) w ∙ ap (λ (k : ℕ). drop k w) (sym (h .slot)))
+      ∙ ap (λ (k : ℕ). take k (drop (l .slot) w)) (sym two) ∙ slot-lies .whole (l .len) (h .len))
+
   -- ---- a word stored
 
   module _ (i y : ℕ) where
@@ -281,6 +330,39 @@ module _ (l : Columns) (w : List ℕ) (h : Laid (length w) l) where
     len-stored b =
         len-only (l .rows) (l .slots) (column-apart w (l .rows + l .rows + l .slots + l .slots) (l .slots) (l .len) (3 + l .rows + l .rows + l .slots + l .slots) (omega arith) (omega arith) (omega arith) i b y)
         ∙ ap (λ (c : List ℕ). withLen c (seen l w)) (column-set w (l .rows + l .rows + l .slots + l .slots) (l .slots) (l .len) (3 + l .rows + l .rows + l .slots + l .slots) (omega arith) (omega arith) (omega arith) i b y)
+
+  -- ---- the first words of a column put, and both columns of the entries
+
+  module _ (long : 3 ≤ length w) where
+    pub names-put : (m : ℕ) (ys : List ℕ) → m ≤ l .rows → length ys ≡ m
+        → seen l (putMid (l .names) m w ys) ≡ withNames (ys ++ drop m (seen l w .names)) (seen l w)
+    names-put m ys b e =
+        names-only (l .rows) (l .slots) (column-put-apart w 0 (l .rows) (l .names) 3 (omega arith) (omega arith) (omega arith) long m ys b e)
+        ∙ ap (λ (c : List ℕ). withNames c (seen l w)) (column-put w 0 (l .rows) (l .names) 3 (omega arith) (omega arith) (omega arith) long m ys b e)
+
+    pub pointers-put : (m : ℕ) (ys : List ℕ) → m ≤ l .rows → length ys ≡ m
+        → seen l (putMid (l .pointers) m w ys) ≡ withPointers (ys ++ drop m (seen l w .pointers)) (seen l w)
+    pointers-put m ys b e =
+        pointers-only (l .rows) (l .slots) (column-put-apart w (l .rows) (l .rows) (l .pointers) (3 + l .rows) (omega arith) (omega arith) (omega arith) long m ys b e)
+        ∙ ap (λ (c : List ℕ). withPointers c (seen l w)) (column-put w (l .rows) (l .rows) (l .pointers) (3 + l .rows) (omega arith) (omega arith) (omega arith) long m ys b e)
+
+    pub entries-put : (os ss : List ℕ) → length os ≡ l .slots → length ss ≡ l .slots
+        → seen l (putMid (l .owner) (l .slots + l .slots) w (os ++ ss)) ≡ withOwner os (withSlot ss (seen l w))
+    entries-put os ss eo es =
+        let s : ℕ = l .slots in
+        let t : ℕ = 3 + l .rows + l .rows in
+        let v : List ℕ = putMid (l .owner) (s + s) w (os ++ ss) in
+        let n : length (os ++ ss) ≡ s + s = simp length-append (omega arith) in
+        let at : l .owner ≡ t = omega arith in
+        let both : drop t v ≡ (os ++ ss) ++ drop (s + s) (drop (l .owner) w) =
+        ap (λ (j : ℕ). drop j v) (sym at) ∙ left-put (l .owner) (s + s) w (os ++ ss) (omega arith) n in
+        let first : take s (drop t v) ≡ os =
+        ap (take s) (both ∙ append-assoc os ss (drop (s + s) (drop (l .owner) w))) ∙ take-at os (ss ++ drop (s + s) (drop (l .owner) w)) s eo in
+        let second : take s (drop (t + s) v) ≡ ss =
+        ap (take s) (sym (drop-drop s t v) ∙ ap (drop s) (both ∙ append-assoc os ss (drop (s + s) (drop (l .owner) w))) ∙ drop-at os (ss ++ drop (s + s) (drop (l .owner) w)) s eo)
+        ∙ take-at ss (drop (s + s) (drop (l .owner) w)) s es in
+        entries-only (l .rows) s (put-apart (l .owner) (s + s) w (os ++ ss) (omega arith) n t (s + s) (omega arith) (omega arith))
+        ∙ ap₂ (λ (x y : List ℕ). withOwner x (withSlot y (seen l w))) first second
 
   -- ---- the head
 

@@ -61,7 +61,7 @@ returns-17 c = search needs
 returns-18 : tie.Need-returns-18
 returns-18 c =
     let e = no-row (c .before .args .command) (c .match .rest) in
-    (ap (λ (r : Row). r .size) (sym e), ap (λ (r : Row). r .who) (sym e))
+    record { size = ap (λ (r : Row). r .size) (sym (e .0)); who = ap (λ (r : Row). r .who) (sym (e .0)); part = sym (e .1) }
 
 pub row-of-spec : {M : Type 1} → statement M
 row-of-spec =

@@ -1,23 +1,25 @@
--- `writing::put_head` meets its contract: ten stores are `sets` of the ten bytes.
+-- `writing::put_head` meets its contract: no room, or ten stores (proofs/Puts.antt, `put-ten`).
 -- Assumes nothing.
-use mathlib.Core.Path.{refl}
-use native.Mathlib.Omega.{arith}
+use mathlib.Core.Path.{sym}
 use lib.ListN.{length-set}
+use Rattle.frames.specs.Laws.Encoded.{head-not}
+use Rattle.frames.proofs.Puts.{put-ten}
+use native.Mathlib.Omega.{arith}
 use borrow.Author.Needs.{needs}
 use Rattle.frames.proofs.writing.put_head.Statement.{statement}
 use Rattle.frames.proofs.writing.put_head.Tie as tie
 
-add-out : tie.Need-add-out
-add-out c = search needs
+returns : tie.Need-returns
+returns c = sym (head-not _ _ _ _ _ _ (c .if1 .taken))
+
+add-size : tie.Need-add-size
+add-size c = search needs
 
 cast-out : tie.Need-cast-out
 cast-out c = search needs
 
 slice-write-out : tie.Need-slice-write-out
 slice-write-out c = search needs
-
-add-out-2 : tie.Need-add-out-2
-add-out-2 c = search needs
 
 cast-out-2 : tie.Need-cast-out-2
 cast-out-2 c = search needs
@@ -70,17 +72,17 @@ slice-write-out-10 c = simp length-set (omega arith)
 same-length : tie.Need-same-length
 same-length c = simp length-set
 
-returns : tie.Need-returns
-returns c = refl
+returns-2 : tie.Need-returns-2
+returns-2 c = let a = c .before .args in put-ten (a .condition) (a .action) (a .label) (a .number) (a .n) (a .out .now) (c .if1 .left)
 
 pub put-head-spec : {M : Type 1} → statement M
 put-head-spec =
     tie.close
     (tie.spec
-    add-out
+    returns
+    add-size
     cast-out
     slice-write-out
-    add-out-2
     cast-out-2
     slice-write-out-2
     slice-write-out-3
@@ -98,4 +100,4 @@ put-head-spec =
     cast-out-8
     slice-write-out-10
     same-length
-    returns)
+    returns-2)

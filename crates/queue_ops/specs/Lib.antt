@@ -1,0 +1,4 @@
+pub mod Sought
+pub mod Entry
+pub mod Sweep
+pub mod Row
