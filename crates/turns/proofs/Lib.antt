@@ -1,0 +1,3 @@
+pub mod Arms
+pub mod Obeying
+pub mod Turning
