@@ -37,6 +37,7 @@ fn blocks(q: Request, program: u32, terminal: u32) -> bool
     false
 }
 
+// Whether one of the active tasks does.
 fn clashes(requests: &[u64], program: u32, terminal: u32) -> bool
     ensures { λ r. ⌜ r ≡ any (clash program terminal) (live (viewOf (now (requests .entry)))) ⌝ }
 {

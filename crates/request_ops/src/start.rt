@@ -10,7 +10,7 @@ ghost use Rattle.words.specs.Said.{gave, handed, codeOf};
 ghost use Rattle.names.specs.Names as names;
 ghost use Rattle.request_rows.specs.Table.{viewOf, live, slotsIn};
 ghost use Rattle.request_rows.specs.Start.{begunAt, asked, kept, startIn};
-ghost use Rattle.request_ops.specs.Start.{Passed, slotAt, refusal};
+ghost use Rattle.request_ops.specs.Start.{refusal, Passed, slotAt, acceptIn};
 use base::bytes::store;
 use base::bytes::wide;
 use base::names::BLANK;
@@ -122,6 +122,44 @@ fn has_room(requests: &[u64], area: &[u8], m: usize, k: usize) -> bool
     m < rows(requests) && k < least(area.len() / 64, 128)
 }
 
+// What is done where nothing is refused: "7; 1".
+fn accept(
+    requests: &mut [u64],
+    area: &mut [u8],
+    name: u64,
+    program: u32,
+    terminal: u32,
+    interval: u32,
+    bytes: &[u8],
+) -> Said
+    requires { ⌜ length (now bytes) ≤ 64 ⌝ }
+    ensures exact { λ r. ⌜ ((b : List ℕ) → gave r (kept (viewOf (now (requests .exit))) (now (area .exit))) b ≡ handed (acceptIn (viewOf (now (requests .entry))) (now (area .entry)) (asked name program terminal interval (now (bytes .entry)))) b) ⌝ }
+    ensures short { λ r. ⌜ r .len ≤ 64 ⌝ }
+{
+    let m = count(requests);
+    let s = scan(requests, name);
+    if s.at < m {
+        return plain(Condition::NotUnique, 0);
+    }
+    let k = slot_at(s.used);
+    if has_room(requests, area, m, k) {
+        let q = Request {
+            name,
+            program,
+            terminal,
+            phase: begun(register(requests), interval),
+            len: bytes.len() as u8,
+            slot: k as u8,
+        };
+        put_request(requests, m, q);
+        requests[1] = (m + 1) as u64;
+        store(area, k * 64, bytes);
+        return plain(Condition::Normal, 0);
+    }
+    plain(Condition::NoSpace, 0)
+}
+
+// The checks in their order, and the request where none of them holds.
 pub fn start(
     programs: &[u64],
     terminals: &[u64],
@@ -148,25 +186,5 @@ pub fn start(
     let Condition::Normal = o else {
         return plain(o, 0);
     };
-    let m = count(requests);
-    let s = scan(requests, name);
-    if s.at < m {
-        return plain(Condition::NotUnique, 0);
-    }
-    let k = slot_at(s.used);
-    if has_room(requests, area, m, k) {
-        let q = Request {
-            name,
-            program,
-            terminal,
-            phase: begun(register(requests), interval),
-            len: bytes.len() as u8,
-            slot: k as u8,
-        };
-        put_request(requests, m, q);
-        requests[1] = (m + 1) as u64;
-        store(area, k * 64, bytes);
-        return plain(Condition::Normal, 0);
-    }
-    plain(Condition::NoSpace, 0)
+    accept(requests, area, name, program, terminal, interval, bytes)
 }

@@ -7,6 +7,7 @@ use native.Mathlib.Omega.{arith}
 use lib.ListN.{length, getD}
 use borrow.Author.Tests.{eq-eqb, ne-eqb, lt-ltb, le-ltb}
 use Rattle.base.specs.Bytes.{blank}
+use Rattle.base.specs.Lists.{any}
 use Rattle.base.specs.Laws.Keep.{firstAt-any}
 use Rattle.model.specs.Plans.{invalidRequest, notFound, fault, done}
 use Rattle.request_rows.specs.declared.Request.{Request}
@@ -26,18 +27,22 @@ module _ (t : Requests) (n : ℕ) where
     unfolding cancelIn
     cancel-none h = rw (ne-eqb n (blank 8) ne, firstAt-any (named n) (live t), le-ltb (placeOf t n) (length (live t)) (omega arith))
 
-    module _ (h : i < length (live t)) where
-      pub cancel-active : active (getD (live t) i noRow) ≡ true → fault t notFound ≡ cancelIn t n
-      unfolding cancelIn
-      cancel-active a =
-          rw (ne-eqb n (blank 8) ne, firstAt-any (named n) (live t), lt-ltb (placeOf t n) (length (live t)) (omega arith), ap (λ (k : ℕ). active (getD (live t) k noRow)) (sym e) ∙ a)
+    module _ (h : i < length (live t)) (b : Bool) (eb : active (getD (live t) i noRow) ≡ b) where
+      found : any (named n) (live t) ≡ true
+      found = firstAt-any (named n) (live t) ∙ lt-ltb (placeOf t n) (length (live t)) (omega arith)
 
-      pub cancelled : active (getD (live t) i noRow) ≡ false → done (removeAt t i) 0 ≡ cancelIn t n
+      there : active (getD (live t) (placeOf t n) noRow) ≡ b
+      there = ap (λ (k : ℕ). active (getD (live t) k noRow)) (sym e) ∙ eb
+
+      pub cancel-active : b ≡ true → fault t notFound ≡ cancelIn t n
       unfolding cancelIn
-      cancelled a =
-          rw (ne-eqb n (blank 8) ne, firstAt-any (named n) (live t), lt-ltb (placeOf t n) (length (live t)) (omega arith), ap (λ (k : ℕ). active (getD (live t) k noRow)) (sym e) ∙ a, e)
+      cancel-active f = rw (ne-eqb n (blank 8) ne, found, there ∙ f)
+
+      pub cancelled : b ≡ false → done (removeAt t i) 0 ≡ cancelIn t n
+      unfolding cancelIn
+      cancelled f = rw (ne-eqb n (blank 8) ne, found, there ∙ f, e)
 
 -- of a live row that was read, whether it is active
 pub seen : (w : List ℕ) (i : ℕ) → i < length (live (viewOf w)) → (q : Request) → q ≡ decode (getD (viewOf w .rows) i noRow)
-    → (b : Bool) → b ≡ isActive (q .phase) → b ≡ active (getD (live (viewOf w)) i noRow)
-seen w i h q e b f = f ∙ ap (λ (x : Request). isActive (x .phase)) e ∙ ap active (live-at w i h)
+    → (b : Bool) → b ≡ isActive (q .phase) → active (getD (live (viewOf w)) i noRow) ≡ b
+seen w i h q e b f = sym (f ∙ ap (λ (x : Request). isActive (x .phase)) e ∙ ap active (live-at w i h))

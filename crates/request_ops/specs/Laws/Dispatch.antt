@@ -10,7 +10,7 @@ use borrow.Author.Tests.{lt-ltb, le-ltb}
 use Rattle.base.specs.Lists.{keep, any, firstAt, over}
 use Rattle.base.specs.Laws.Keep.{keep-append, firstAt-any}
 use Rattle.base.specs.Laws.Scans.{read-cons}
-use Rattle.base.specs.Laws.Seeking.{Sought, counted, within, seeks-hit, seeks-on, seeks-end}
+use Rattle.base.specs.Laws.Seeking.{counted, within, seeks-hit, seeks-on, seeks-end}
 use Rattle.words.specs.declared.said.Condition.the-variants.{Normal, NotFound}
 use Rattle.words.specs.Said.{saying, gave, handed, told}
 use Rattle.words.specs.Laws.Said.{gave-told}
@@ -19,7 +19,7 @@ use Rattle.request_rows.specs.declared.Request.{Request}
 use Rattle.request_rows.specs.Rows.{Row, noRow, decode, programOf, terminalOf, isExpired, inPhase, expired}
 use Rattle.request_rows.specs.Table.{Requests, viewOf, live, withRow}
 use Rattle.request_rows.specs.Dispatch.{clash, ready, passedBy, At, None, pickIn, bytesFor, dispatched, dispatchIn}
-use Rattle.request_rows.specs.Laws.View.{live-sought, live-at}
+use Rattle.request_rows.specs.Laws.View.{Seeks, live-sought, live-at}
 use Rattle.request_ops.specs.Dispatch.{Chosen, sixteen}
 
 -- ---- how many of the line are passed
@@ -48,7 +48,7 @@ module _ (n : ℕ) (l : List Row) (i : ℕ) (hn : i < n) (hl : i < length l) whe
 module _ (w : List ℕ) (m : ℕ) where
   -- none of the rows before i can start, and k of them are in the line
   pub record Passing (i k : ℕ) : Type 0 where
-    pub sought : Sought (ready (live (viewOf w))) (viewOf w .rows) (viewOf w .count) (length (viewOf w .rows)) m i
+    pub sought : Seeks (ready (live (viewOf w))) w m i
     pub line : k ≡ passedBy i (live (viewOf w))
     pub few : k ≤ i
 
@@ -121,13 +121,16 @@ module _ (t : Requests) (at passed : ℕ) (c : Chosen (live t) at passed) where
   pub dispatch-none : length (live t) ≤ at → told (saying NotFound (passed % 4_294_967_296) 0) [] t ≡ dispatchIn t
   dispatch-none h = chosen-none h
 
-pub dispatch-hit : (w : List ℕ) (at passed : ℕ) → Chosen (live (viewOf w)) at passed → at < length (live (viewOf w))
-    → (q : Request) → q ≡ decode (getD (viewOf w .rows) at noRow) → (t′ : Requests) → t′ ≡ withRow (viewOf w) at (inPhase (Active false) (getD (viewOf w .rows) at noRow))
-    → (b b′ : List ℕ) → b′ ≡ over (take (length b) (sixteen q)) b → gave (saying Normal (passed % 4_294_967_296) 16) t′ b′ ≡ handed (dispatchIn (viewOf w)) b
-dispatch-hit w at passed c h q e t′ et b b′ eb =
-    let r : getD (viewOf w .rows) at noRow ≡ getD (live (viewOf w)) at noRow = live-at w at h in
-    let k : sixteen q ≡ bytesFor (getD (live (viewOf w)) at noRow) = ap sixteen e ∙ ap bytesFor r in
-    let s : t′ ≡ withRow (viewOf w) at (inPhase (Active false) (getD (live (viewOf w)) at noRow)) = et ∙ ap (λ (x : Row). withRow (viewOf w) at (inPhase (Active false) x)) r in
-    gave-told (saying Normal (passed % 4_294_967_296) 16) t′ (dispatchIn (viewOf w)) (bytesFor (getD (live (viewOf w)) at noRow)) b′ b
-    (ap (told (saying Normal (passed % 4_294_967_296) 16) (bytesFor (getD (live (viewOf w)) at noRow))) s ∙ chosen-at (viewOf w) at passed c h)
-    refl (eb ∙ ap (λ (x : List ℕ). over (take (length b) x) b) k)
+module _ (w : List ℕ) (at passed : ℕ) (c : Chosen (live (viewOf w)) at passed) (h : at < length (live (viewOf w))) where
+  abbrev taken : Row
+  taken = getD (live (viewOf w)) at noRow
+
+  pub dispatch-hit : (q : Request) → q ≡ decode (getD (viewOf w .rows) at noRow)
+      → (t′ : Requests) → t′ ≡ withRow (viewOf w) at (inPhase (Active false) (getD (viewOf w .rows) at noRow))
+      → (b b′ : List ℕ) → b′ ≡ over (take (length b) (sixteen q)) b → gave (saying Normal (passed % 4_294_967_296) 16) t′ b′ ≡ handed (dispatchIn (viewOf w)) b
+  dispatch-hit q e t′ et b b′ eb =
+      let k : sixteen q ≡ bytesFor taken = ap sixteen e ∙ ap bytesFor (live-at w at h) in
+      let s = et ∙ ap (λ (x : Row). withRow (viewOf w) at (inPhase (Active false) x)) (live-at w at h) in
+      gave-told (saying Normal (passed % 4_294_967_296) 16) t′ (dispatchIn (viewOf w)) (bytesFor taken) b′ b
+      (ap (told (saying Normal (passed % 4_294_967_296) 16) (bytesFor taken)) s ∙ chosen-at (viewOf w) at passed c h)
+      refl (eb ∙ ap (λ (x : List ℕ). over (take (length b) x) b) k)

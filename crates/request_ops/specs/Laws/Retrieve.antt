@@ -13,8 +13,9 @@ use Rattle.base.specs.Lists.{any, firstAt, over}
 use Rattle.base.specs.Laws.Tests.{byTest, no}
 use Rattle.base.specs.Laws.Keep.{firstAt-any}
 use Rattle.base.specs.Laws.Scans.{take-least}
-use Rattle.model.specs.Plans.{normal, wrongLength, endOfData, fault, cut}
+use Rattle.model.specs.Plans.{normal, wrongLength, endOfData, fault, cut, Outcome}
 use Rattle.words.specs.declared.said.Condition.{Condition}
+use Rattle.words.specs.declared.said.Said.{Said}
 use Rattle.words.specs.Said.{codeOf, saying, gave, handed}
 use Rattle.words.specs.Laws.Said.{gave-told}
 use Rattle.request_rows.specs.declared.Phase.the-variants.{Active}
@@ -84,45 +85,59 @@ module _ (area : List ℕ) (r : Row) where
   serves-row p m = rw (data-size area (decode r))
 
 -- where there is no request there is nothing of its own
-own-live : (t : Requests) (area : List ℕ) (i : ℕ) → hasOwn area (rowAt t i) ≡ true → length (live t) ≤ i → getD (live t) i noRow ≡ noRow → ⊥
+own-live : (t : Requests) (area : List ℕ) (i : ℕ) → hasOwn area (rowAt t i) ≡ true → rowAt t i ≡ noRow → ⊥
 unfolding phaseOf
-own-live t area i h k e = no (sym (ap (hasOwn area) e) ∙ h)
+own-live t area i h e = no (sym (ap (hasOwn area) e) ∙ h)
 
 -- ---- what is said and left
 
 module _ (w area : List ℕ) (i room : ℕ) (q : Request) (e : q ≡ decode (rowAt (viewOf w) i)) (b : Bool) (eb : b ≡ owns (length area) q) where
+  -- by one that gives what there is room for, whatever is left
+  abbrev pub Gives : Said → List ℕ → List ℕ → Request → Type 0
+  Gives r x y p = (s : Requests) → gave r s x ≡ handed (cut s room (dataIn area p)) y
+
+  abbrev pub Retrieved : Said → Requests → List ℕ → List ℕ → Type 0
+  Retrieved r t x y = gave r t x ≡ handed (retrieveAt (viewOf w) area i room) y
+
   its-own : b ≡ hasOwn area (rowAt (viewOf w) i)
   its-own = eb ∙ ap (owns (length area)) e ∙ own-row area (rowAt (viewOf w) i)
 
-  pub retrieve-own : b ≡ true → (t′ : Requests) → t′ ≡ withRow (viewOf w) i (inPhase (Active true) (getD (viewOf w .rows) i noRow))
-      → cut t′ room (dataIn area q) ≡ retrieveAt (viewOf w) area i room
-  unfolding retrieveAt
-  retrieve-own f t′ et =
-      let o = sym its-own ∙ f in
-      let h : i < length (live (viewOf w)) =
-      byTest (ltb i (length (live (viewOf w)))) (λ t. ltb-true i _ t)
-      (λ t. let k = ltb-false i (length (live (viewOf w))) t in absurd (own-live (viewOf w) area i o k (live-past w i k))) in
-      let r = live-at w i h in
-      rw o (ap₂ (λ (s : Requests) (d : List ℕ). cut s room d) (et ∙ ap (λ (x : Row). withRow (viewOf w) i (inPhase (Active true) x)) r) (ap (dataIn area) e))
+  module _ (f : b ≡ true) where
+    in-use : i < length (live (viewOf w))
+    in-use =
+        byTest (ltb i (length (live (viewOf w)))) (ltb-true i (length (live (viewOf w))))
+        (λ t. let k = ltb-false i (length (live (viewOf w))) t in absurd (own-live (viewOf w) area i (sym its-own ∙ f) (live-past w i k)))
+
+    own-cut : cut (withRow (viewOf w) i (inPhase (Active true) (getD (viewOf w .rows) i noRow))) room (dataIn area q) ≡ retrieveAt (viewOf w) area i room
+    unfolding retrieveAt
+    own-cut =
+        rw (sym its-own ∙ f)
+        (ap₂ (λ (x : Row) (y : Request). cut (withRow (viewOf w) i (inPhase (Active true) x)) room (dataIn area y)) (live-at w i in-use) e)
+
+    pub retrieve-own : (t : Requests) → t ≡ withRow (viewOf w) i (inPhase (Active true) (getD (viewOf w .rows) i noRow))
+        → (r : Said) (x y : List ℕ) → Gives r x y q → Retrieved r t x y
+    retrieve-own t et r x y g = g t ∙ ap (λ (s : Requests). handed (cut s room (dataIn area q)) y) et ∙ ap (λ (o : Outcome Requests). handed o y) own-cut
 
   module _ (f : b ≡ false) (j : ℕ) (ej : j ≡ firstAt (serves area (q .program) (q .terminal)) (live (viewOf w))) where
-    abbrev first : ℕ
-    first = firstAt (serves area (programOf (rowAt (viewOf w) i)) (terminalOf (rowAt (viewOf w) i))) (live (viewOf w))
+    abbrev serves-it : Row → Bool
+    serves-it = serves area (programOf (rowAt (viewOf w) i)) (terminalOf (rowAt (viewOf w) i))
 
-    served : j ≡ first
+    served : j ≡ firstAt serves-it (live (viewOf w))
     served = ej ∙ ap (λ (x : Request). firstAt (serves area (x .program) (x .terminal)) (live (viewOf w))) e
 
-    there : (c : Bool) → ltb j (length (live (viewOf w))) ≡ c
-        → any (serves area (programOf (rowAt (viewOf w) i)) (terminalOf (rowAt (viewOf w) i))) (live (viewOf w)) ≡ c
-    there c g = firstAt-any (serves area (programOf (rowAt (viewOf w) i)) (terminalOf (rowAt (viewOf w) i))) (live (viewOf w)) ∙ ap (λ (k : ℕ). ltb k (length (live (viewOf w)))) (sym served) ∙ g
+    there : any serves-it (live (viewOf w)) ≡ ltb j (length (live (viewOf w)))
+    there = firstAt-any serves-it (live (viewOf w)) ∙ ap (λ (k : ℕ). ltb k (length (live (viewOf w)))) (sym served)
 
     pub retrieve-none : length (live (viewOf w)) ≤ j → fault (viewOf w) endOfData ≡ retrieveAt (viewOf w) area i room
     unfolding retrieveAt
-    retrieve-none h = rw (sym its-own ∙ f, there false (le-ltb j _ h))
+    retrieve-none h = rw (sym its-own ∙ f, there ∙ le-ltb j (length (live (viewOf w))) h)
 
-    pub retrieve-served : j < length (live (viewOf w)) → (p : Request) → p ≡ decode (getD (viewOf w .rows) j noRow)
-        → cut (removeAt (viewOf w) j) room (dataIn area p) ≡ retrieveAt (viewOf w) area i room
-    unfolding retrieveAt
-    retrieve-served h p ep =
-        let r = live-at w j h in
-        rw (sym its-own ∙ f, there true (lt-ltb j _ h), sym served) (ap (λ (x : Request). cut (removeAt (viewOf w) j) room (dataIn area x)) (ep ∙ ap decode r))
+    module _ (h : j < length (live (viewOf w))) (p : Request) (ep : p ≡ decode (getD (viewOf w .rows) j noRow)) where
+      served-cut : cut (removeAt (viewOf w) j) room (dataIn area p) ≡ retrieveAt (viewOf w) area i room
+      unfolding retrieveAt
+      served-cut =
+          rw (sym its-own ∙ f, there ∙ lt-ltb j (length (live (viewOf w))) h, sym served)
+          (ap (λ (x : Request). cut (removeAt (viewOf w) j) room (dataIn area x)) (ep ∙ ap decode (live-at w j h)))
+
+      pub retrieve-served : (t : Requests) → t ≡ removeAt (viewOf w) j → (r : Said) (x y : List ℕ) → Gives r x y p → Retrieved r t x y
+      retrieve-served t et r x y g = g t ∙ ap (λ (s : Requests). handed (cut s room (dataIn area p)) y) et ∙ ap (λ (o : Outcome Requests). handed o y) served-cut

@@ -9,24 +9,26 @@ use lib.ListN.{length, take, getD, set, length-set}
 use lib.Seq.{take-all}
 use borrow.Author.Tests.{eq-eqb, ne-eqb, lt-ltb, le-ltb, ltb-true, ltb-false}
 use Rattle.base.specs.Choice.{pick}
-use Rattle.base.specs.Lists.{any, has, firstAt}
+use Rattle.base.specs.Lists.{any, has}
 use Rattle.base.specs.Bytes.{blank, stored}
 use Rattle.base.specs.Laws.Tests.{and-l, and-r}
 use Rattle.base.specs.Laws.Keep.{firstAt-any}
 use Rattle.base.specs.Laws.Scans.{read-cons}
-use Rattle.base.specs.Laws.Seeking.{Sought, counted, within, seeks-hit, seeks-on, seeks-end}
+use Rattle.base.specs.Laws.Seeking.{counted, within, seeks-hit, seeks-on, seeks-end}
 use Rattle.slots.specs.Bits.{none, marked}
 use Rattle.slots.specs.declared.Used.{Used}
 use Rattle.model.specs.Plans.{normal, notUnique, noSpace, Outcome, fault, done}
 use Rattle.model.specs.Interval.{Asked, noneOrKnown}
+use Rattle.words.specs.declared.said.Said.{Said}
+use Rattle.words.specs.Said.{gave, handed}
 use Rattle.names.specs.Names.{Names, namesIn}
 use Rattle.request_rows.specs.declared.Phase.{Phase}
 use Rattle.request_rows.specs.declared.Request.{Request}
 use Rattle.request_rows.specs.Rows.{Row, noRow, slotOf, decode, encode, named}
 use Rattle.request_rows.specs.Table.{Requests, viewOf, registerOf, live, withLive, withRow, slotsIn}
-use Rattle.request_rows.specs.Start.{begunAt, usedFrom, freeSlot, roomIn, Kept, kept, begin, startIn}
-use Rattle.request_rows.specs.Laws.View.{live-sought, withCount, view-count, live-more}
-use Rattle.request_ops.specs.Start.{refusal, Passed, slotAt}
+use Rattle.request_rows.specs.Start.{begunAt, usedFrom, freeSlot, roomIn, Kept, kept, startIn}
+use Rattle.request_rows.specs.Laws.View.{Seeks, live-sought, withCount, view-count, live-more}
+use Rattle.request_ops.specs.Start.{refusal, Passed, slotAt, acceptIn}
 
 -- ---- the pass over the requests
 
@@ -37,7 +39,7 @@ used-snoc u (r ∷ l) q = used-snoc (marked u (slotOf r)) l q
 module _ (w : List ℕ) (n m : ℕ) where
   -- none of the rows before i has the name, and u are their slots
   pub record Passing (i : ℕ) (u : Used) : Type 0 where
-    pub sought : Sought (named n) (viewOf w .rows) (viewOf w .count) (length (viewOf w .rows)) m i
+    pub sought : Seeks (named n) w m i
     pub used : u ≡ usedFrom none (take i (live (viewOf w)))
 
   pub passing-start : m ≡ length (live (viewOf w)) → (u : Used) → u ≡ none → Passing 0 u
@@ -103,49 +105,55 @@ module _ (ps ts : Names) (t : Requests) (area : List ℕ) (a : Asked) where
     pub start-small : length (a .bytes) ≤ 64
     start-small = ltb-false 64 (length (a .bytes)) (cleared .1)
 
-    -- what is left to find out
-    abbrev left : Outcome Kept
-    left = pick (any (named (a .name)) (live t)) (fault (kept t area) notUnique) (pick (not (roomIn t area)) (fault (kept t area) noSpace) (done (begin t area a (freeSlot (live t))) 0))
+    start-accepted : acceptIn t area a ≡ startIn ps ts t area a
+    unfolding startIn acceptIn
+    start-accepted = rw (cleared .0, cleared .1, cleared .2, cleared .3)
 
-    start-left : left ≡ startIn ps ts t area a
-    unfolding startIn
-    start-left = rw (cleared .0, cleared .1, cleared .2, cleared .3)
+    pub start-said : (r : Said) (s : Kept) → ((b : List ℕ) → gave r s b ≡ handed (acceptIn t area a) b)
+        → (b : List ℕ) → gave r s b ≡ handed (startIn ps ts t area a) b
+    start-said r s g b = g b ∙ ap (λ (o : Outcome Kept). handed o b) start-accepted
 
-    module _ (at : ℕ) (u : Used) (p : Passed (live t) (a .name) at u) where
-      pub start-taken : at < length (live t) → fault (kept t area) notUnique ≡ startIn ps ts t area a
-      start-taken h =
-          let k = p .place in
-          let b : any (named (a .name)) (live t) ≡ true = firstAt-any (named (a .name)) (live t) ∙ lt-ltb (firstAt (named (a .name)) (live t)) (length (live t)) (omega arith) in
-          rw b at start-left
+-- ---- where nothing is refused
 
-      module _ (h : length (live t) ≤ at) (k : ℕ) (ek : k ≡ slotAt u) where
-        unique : any (named (a .name)) (live t) ≡ false
-        unique = let j = p .place in firstAt-any (named (a .name)) (live t) ∙ le-ltb (firstAt (named (a .name)) (live t)) (length (live t)) (omega arith)
+module _ (t : Requests) (area : List ℕ) (a : Asked) (at : ℕ) (u : Used) (p : Passed (live t) (a .name) at u) where
+  found : any (named (a .name)) (live t) ≡ ltb at (length (live t))
+  found = firstAt-any (named (a .name)) (live t) ∙ ap (λ (i : ℕ). ltb i (length (live t))) (sym (p .place))
 
-        slot : k ≡ freeSlot (live t)
-        unfolding freeSlot slotAt
-        slot = ek ∙ ap slotAt (p .used ∙ ap (usedFrom none) (take-all at (live t) h))
+  pub accept-taken : at < length (live t) → fault (kept t area) notUnique ≡ acceptIn t area a
+  unfolding acceptIn
+  accept-taken h = rw (found ∙ lt-ltb at (length (live t)) h)
 
-        module _ (m : ℕ) (em : m ≡ length (live t)) (b : Bool) (eb : b ≡ (ltb m (length (t .rows)) && ltb k (slotsIn area))) where
-          room : b ≡ roomIn t area
-          room = eb ∙ ap₂ (λ (i j : ℕ). ltb i (length (t .rows)) && ltb j (slotsIn area)) em slot
+  module _ (h : length (live t) ≤ at) (k : ℕ) (ek : k ≡ slotAt u) where
+    unique : any (named (a .name)) (live t) ≡ false
+    unique = found ∙ le-ltb at (length (live t)) h
 
-          pub start-full : b ≡ false → fault (kept t area) noSpace ≡ startIn ps ts t area a
-          start-full f = rw (unique, sym room ∙ f) at start-left
+    slot : k ≡ freeSlot (live t)
+    unfolding freeSlot slotAt
+    slot = ek ∙ ap slotAt (p .used ∙ ap (usedFrom none) (take-all at (live t) h))
 
-          module _ (f : b ≡ true) where
-            pub start-row : m < length (t .rows)
-            start-row = ltb-true m (length (t .rows)) (and-l _ _ (sym eb ∙ f))
+    module _ (m : ℕ) (em : m ≡ length (live t)) (b : Bool) (eb : b ≡ (ltb m (length (t .rows)) && ltb k (slotsIn area))) where
+      room : b ≡ roomIn t area
+      room = eb ∙ ap₂ (λ (i j : ℕ). ltb i (length (t .rows)) && ltb j (slotsIn area)) em slot
 
-            pub start-slot : k < slotsIn area
-            start-slot = ltb-true k (slotsIn area) (and-r (ltb m (length (t .rows))) _ (sym eb ∙ f))
+      pub accept-full : b ≡ false → fault (kept t area) noSpace ≡ acceptIn t area a
+      unfolding acceptIn
+      accept-full f = rw (unique, sym room ∙ f)
 
-            pub start-done : (ph : Phase) → ph ≡ begunAt (registerOf t) (a .interval) → (t′ : Requests) (area′ : List ℕ)
-                → t′ ≡ withLive t (live t ++ (encode (record { name = a .name; program = a .program; terminal = a .terminal; phase = ph; len = length (a .bytes); slot = k }) ∷ []))
-                → area′ ≡ stored area (k * 64) (a .bytes) → done (kept t′ area′) 0 ≡ startIn ps ts t area a
-            start-done ph ep t′ area′ et ea =
-                let l = rw (unique, sym room ∙ f) at start-left in
-                rw (et, ea, ep, slot) l
+      abbrev begunIn : Phase → Request
+      begunIn ph = record { name = a .name; program = a .program; terminal = a .terminal; phase = ph; len = length (a .bytes); slot = k }
+
+      pub accept-done : b ≡ true → (ph : Phase) → ph ≡ begunAt (registerOf t) (a .interval) → (t′ : Requests) (area′ : List ℕ)
+          → t′ ≡ withLive t (live t ++ (encode (begunIn ph) ∷ [])) → area′ ≡ stored area (k * 64) (a .bytes) → done (kept t′ area′) 0 ≡ acceptIn t area a
+      unfolding acceptIn
+      accept-done f ph ep t′ area′ et ea = rw (unique, sym room ∙ f, et, ea, ep, slot)
+
+-- where there is room
+module _ (t : Requests) (area : List ℕ) (m k : ℕ) (b : Bool) (eb : b ≡ (ltb m (length (t .rows)) && ltb k (slotsIn area))) (f : b ≡ true) where
+  pub room-row : m < length (t .rows)
+  room-row = ltb-true m (length (t .rows)) (and-l (ltb m (length (t .rows))) (ltb k (slotsIn area)) (sym eb ∙ f))
+
+  pub room-slot : k < 128
+  room-slot = let h = ltb-true k (slotsIn area) (and-r (ltb m (length (t .rows))) (ltb k (slotsIn area)) (sym eb ∙ f)) in omega arith
 
 -- one row more: stored, and counted
 pub row-more : (w w′ : List ℕ) (m : ℕ) (q : Row) → m ≡ length (live (viewOf w)) → m < length (viewOf w .rows) → viewOf w′ ≡ withRow (viewOf w) m q

@@ -35,14 +35,16 @@ same-length : tie.Need-same-length
 same-length c = search needs
 
 returns : tie.Need-returns
-returns c = let a = c .before .before .before .before .before .args in
+returns c =
+    let a = c .before .before .before .before .before .args in
     ap (λ (x : ℕ). viewOf (set (a .t .now) (2 + a .i * 4 + 2) x)) (c .phase-word .ensures) ∙ view-phase (a .t .now) (a .i) (a .p) (omega arith)
 
 same-length-2 : tie.Need-same-length-2
 same-length-2 c = search needs
 
 returns-2 : tie.Need-returns-2
-returns-2 c = let a = c .before .before .before .before .args in
+returns-2 c =
+    let a = c .before .before .before .before .args in
     sym (view-out (a .t .now) (a .i) (inPhase (a .p) (getD (viewOf (a .t .now) .rows) (a .i) noRow)) (omega arith))
 
 pub put-phase-spec : {M : Type 1} → statement M

@@ -52,7 +52,8 @@ same-length : tie.Need-same-length
 same-length c = search needs
 
 returns : tie.Need-returns
-returns c = let a = c .before .before .before .before .before .before .before .before .before .before .before .before .before .args in
+returns c =
+    let a = c .before .before .before .before .before .before .before .before .before .before .before .before .before .args in
     let q = row (a .q .name) (a .q .program * 4294967296 + a .q .terminal) (c .before .before .before .phase-word .result) (a .q .len + a .q .slot * 256) in
     ap viewOf (c .before .before .put-row .ensures) ∙ view-put (a .t .now) (a .i) q (omega arith)
     ∙ ap (λ (x : ℕ). withRow (viewOf (a .t .now)) (a .i) (row (a .q .name) (a .q .program * 4294967296 + a .q .terminal) x (a .q .len + a .q .slot * 256))) (c .before .before .before .phase-word .ensures)

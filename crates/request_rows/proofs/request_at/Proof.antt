@@ -22,12 +22,14 @@ request-from-requires : tie.Need-request-from-requires
 request-from-requires c κs = omega (arith, rows-in (c .before .before .before .args .t .now))
 
 returns : tie.Need-returns
-returns c = let a = c .before .before .before .before .args in
+returns c =
+    let a = c .before .before .before .before .args in
     c .request-from .ensures ∙ ap decode (view-read (a .t .now) (a .i) (omega arith))
 
 returns-2 : tie.Need-returns-2
 unfolding phaseOf
-returns-2 c = let a = c .before .before .before .args in
+returns-2 c =
+    let a = c .before .before .before .args in
     sym (ap decode (List·getD-eq-default (viewOf (a .t .now) .rows) noRow {n = a .i} (omega arith)))
 
 pub request-at-spec : {M : Type 1} → statement M

@@ -1,5 +1,5 @@
 -- `cancel::cancel` meets its contract. Assumes nothing.
-use mathlib.Core.Path.{ap, sym, _∙_}
+use mathlib.Core.Path.{ap, _∙_}
 use native.Mathlib.Omega.{arith}
 use borrow.Author.Needs.{needs}
 use Rattle.model.specs.Plans.{done}
@@ -13,7 +13,8 @@ plain-requires : tie.Need-plain-requires
 plain-requires c κs = search needs
 
 returns : tie.Need-returns
-returns c = let a = c .before .before .before .args in
+returns c =
+    let a = c .before .before .before .args in
     said-plain _ _ 0 _ _ (c .plain .ensures) (cancel-blank (viewOf (a .requests .now)) (a .name) (c .before .if1 .taken))
 
 place-requires : tie.Need-place-requires
@@ -29,8 +30,10 @@ same-length : tie.Need-same-length
 same-length c = search needs
 
 returns-2 : tie.Need-returns-2
-returns-2 c = let a = c .before .before .before .before .before .before .before .before .args in
-    said-plain _ _ 0 _ _ (c .plain2 .ensures) (cancel-none (viewOf (a .requests .now)) (a .name) (c .before .before .before .before .before .before .if1 .left) _ (c .before .before .before .before .place .ensures) (omega arith))
+returns-2 c =
+    let i = c .before .before .before .before in
+    let a = i .before .before .before .before .args in
+    said-plain _ _ 0 _ _ (c .plain2 .ensures) (cancel-none (viewOf (a .requests .now)) (a .name) (i .before .before .if1 .left) _ (i .place .ensures) (omega arith))
 
 request-at-requires : tie.Need-request-at-requires
 request-at-requires c κs = search needs
@@ -45,10 +48,13 @@ same-length-2 : tie.Need-same-length-2
 same-length-2 c = search needs
 
 returns-3 : tie.Need-returns-3
-returns-3 c = let a = c .before .before .before .before .before .before .before .before .before .before .before .before .args in
-    let i = c .before .before .before .before .before .before .before .before .place .result in
+returns-3 c =
+    let q = c .before .before .before in
+    let i = q .before .before .before .before .before in
+    let a = i .before .before .before .before .args in
+    let b = seen (a .requests .now) (i .place .result) (omega arith) (q .request-at .result) (q .request-at .ensures) _ (c .before .before .active .ensures) in
     said-plain _ _ 0 _ _ (c .plain3 .ensures)
-    (cancel-active (viewOf (a .requests .now)) (a .name) (c .before .before .before .before .before .before .before .before .before .before .if1 .left) _ (c .before .before .before .before .before .before .before .before .place .ensures) (omega arith) (sym (seen (a .requests .now) i (omega arith) (c .before .before .before .request-at .result) (c .before .before .before .request-at .ensures) _ (c .before .before .active .ensures)) ∙ c .before .if3 .taken))
+    (cancel-active (viewOf (a .requests .now)) (a .name) (i .before .before .if1 .left) _ (i .place .ensures) (omega arith) _ b (c .before .if3 .taken))
 
 remove-at-requires : tie.Need-remove-at-requires
 remove-at-requires c κs = search needs
@@ -60,11 +66,14 @@ same-length-3 : tie.Need-same-length-3
 same-length-3 c = search needs
 
 returns-4 : tie.Need-returns-4
-returns-4 c = let a = c .before .before .before .before .before .before .before .before .before .before .before .before .before .before .before .before .args in
-    let i = c .before .before .before .before .before .before .before .before .before .before .before .before .place .result in
+returns-4 c =
+    let q = c .before .before .before .before .before .before .before in
+    let i = q .before .before .before .before .before in
+    let a = i .before .before .before .before .args in
+    let b = seen (a .requests .now) (i .place .result) (omega arith) (q .request-at .result) (q .request-at .ensures) _ (c .before .before .before .before .before .before .active .ensures) in
     said-plain _ _ 0 _ _ (c .plain4 .ensures)
     (ap (λ (t : Requests). done t 0) (c .before .before .before .remove-at .ensures)
-    ∙ cancelled (viewOf (a .requests .now)) (a .name) (c .before .before .before .before .before .before .before .before .before .before .before .before .before .before .if1 .left) _ (c .before .before .before .before .before .before .before .before .before .before .before .before .place .ensures) (omega arith) (sym (seen (a .requests .now) i (omega arith) (c .before .before .before .before .before .before .before .request-at .result) (c .before .before .before .before .before .before .before .request-at .ensures) _ (c .before .before .before .before .before .before .active .ensures)) ∙ c .before .before .before .before .before .if3 .left))
+    ∙ cancelled (viewOf (a .requests .now)) (a .name) (i .before .before .if1 .left) _ (i .place .ensures) (omega arith) _ b (c .before .before .before .before .before .if3 .left))
 
 pub cancel-spec : {M : Type 1} → statement M
 cancel-spec =

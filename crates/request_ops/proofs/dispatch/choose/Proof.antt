@@ -31,9 +31,11 @@ add-passed : tie.Need-add-passed Inv-loop μ-loop
 add-passed c = search needs
 
 returns : tie.Need-returns Inv-loop μ-loop
-returns c = let l = c .before .before .before .before .before .before .loop in
+returns c =
+    let l = c .before .before .before .before .before .before in
     let q = c .before .before .before .before .request-at in
-    passing-hit (c .before .before .before .before .before .before .before .before .before .args .requests .now) _ (l .i) _ (l .inv) (c .before .before .before .before .before .loop-test .taken) (q .result) (q .ensures) _ (c .before .before .before .expired .ensures) (c .before .before .if1 .taken) _ (c .before .clashes .ensures) (c .if2 .left)
+    passing-hit (l .before .before .before .args .requests .now) _ (l .loop .i) _ (l .loop .inv) (c .before .before .before .before .before .loop-test .taken) (q .result) (q .ensures)
+    _ (c .before .before .before .expired .ensures) (c .before .before .if1 .taken) _ (c .before .clashes .ensures) (c .if2 .left)
 
 add-i : tie.Need-add-i Inv-loop μ-loop
 add-i c = search needs
@@ -42,12 +44,17 @@ loop-less : tie.Need-loop-less Inv-loop μ-loop
 loop-less c = search needs
 
 loop-again : tie.Need-loop-again Inv-loop μ-loop
-loop-again c = let w = c .before .before .before .before .before .before .before .args .requests .now in
-    let l = c .before .before .before .before .loop in
-    let q = c .before .before .request-at in
+loop-again c =
+    let l = c .before .before .before .before in
+    let w = l .before .before .before .args .requests .now in
     let h = c .before .before .before .loop-test .taken in
-    ⊎-elim (λ t. rw (t .3) (passing-held w _ (l .i) _ (l .inv) h (q .result) (q .ensures) _ (c .before .expired .ensures) (t .0 .taken) _ (t .1 .ensures) (t .2 .taken)))
-    (λ t. rw (t .1) (passing-other w _ (l .i) _ (l .inv) h (q .result) (q .ensures) _ (c .before .expired .ensures) (t .0 .left))) (c .if1 .came)
+    let q = c .before .before .request-at in
+    let e = c .before .expired .ensures in
+    ⊎-elim
+    (λ t.
+    rw (t .3)
+    (passing-held w _ (l .loop .i) _ (l .loop .inv) h (q .result) (q .ensures) _ e (t .0 .taken) _ (t .1 .ensures) (t .2 .taken)))
+    (λ t. rw (t .1) (passing-other w _ (l .loop .i) _ (l .loop .inv) h (q .result) (q .ensures) _ e (t .0 .left))) (c .if1 .came)
 
 returns-2 : tie.Need-returns-2 Inv-loop μ-loop
 returns-2 c = passing-end (c .before .before .before .before .args .requests .now) _ (c .before .loop .i) _ (c .before .loop .inv) (c .loop-test .left)

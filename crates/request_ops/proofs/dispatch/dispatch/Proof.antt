@@ -32,10 +32,15 @@ same-length-2 : tie.Need-same-length-2
 same-length-2 c = search needs
 
 returns : tie.Need-returns
-returns c = let a = c .before .before .before .before .before .before .before .before .before .before .before .before .before .before .before .before .before .before .before .args in
-    let p = c .before .before .put-phase in
-    let q = c .before .before .before .before .before .before .before .before .request-at in
-    (dispatch-hit (a .requests .now) _ _ (c .before .before .before .before .before .before .before .before .before .before .before .before .before .before .before .choose .ensures) (omega arith) (q .result) (q .ensures) (viewOf (p .last .0)) (p .ensures) (a .body .now) _ (c .before .before .before .before .before .before .tell .ensures), omega arith)
+returns c =
+    let p = c .before .before in
+    let q = p .before .before .before .before .before .before in
+    let l = q .before .before .before .before .before .before .before in
+    let a = l .before .before .before .before .args in (
+      dispatch-hit (a .requests .now) _ _ (l .choose .ensures) (omega arith) (q .request-at .result) (q .request-at .ensures)
+          (viewOf (p .put-phase .last .0)) (p .put-phase .ensures) (a .body .now) _ (p .before .before .before .before .tell .ensures),
+      omega arith,
+    )
 
 plain-requires : tie.Need-plain-requires
 plain-requires c κs = search needs
@@ -44,9 +49,11 @@ same-length-3 : tie.Need-same-length-3
 same-length-3 c = search needs
 
 returns-2 : tie.Need-returns-2
-returns-2 c = let a = c .before .before .before .before .before .before .before .before .before .before .args in
+returns-2 c =
+    let l = c .before .before .before .before .before .before in
+    let a = l .before .before .before .before .args in
     let v = viewOf (a .requests .now) in
-    let s = said-plain _ _ _ v _ (c .plain .ensures) (dispatch-none v _ _ (c .before .before .before .before .before .before .choose .ensures) (omega arith)) in
+    let s = said-plain _ _ _ v _ (c .plain .ensures) (dispatch-none v _ _ (l .choose .ensures) (omega arith)) in
     (s .0 (a .body .now), s .1)
 
 pub dispatch-spec : {M : Type 1} → statement M

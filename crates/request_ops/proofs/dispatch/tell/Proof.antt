@@ -115,7 +115,8 @@ same-length : tie.Need-same-length
 same-length c = search needs
 
 returns : tie.Need-returns
-returns c = let a = c .before .before .before .before .before .before .args in
+returns c =
+    let a = c .before .before .before .before .before .before .args in
     let b = a .body .now in
     c .before .before .lay .ensures ∙ ap (λ (l : List ℕ). over (take (length b) l) b) (sym (laid-out (a .q .name) (a .q .program) (a .q .terminal)))
 

@@ -19,8 +19,10 @@ same-length : tie.Need-same-length
 same-length c = search needs
 
 returns : tie.Need-returns
-returns c = let a = c .before .before .before .before .before .before .before .before .before .args in
-    ap viewOf (c .before .before .put-word .ensures ∙ ap (λ (l : List ℕ). set l 0 (a .register)) (c .before .before .before .before .before .before .clear .ensures)) ∙ fresh-words (a .requests .now) (a .register)
+returns c =
+    let z = c .before .before .before .before .before .before in
+    let a = z .before .before .before .args in
+    ap viewOf (c .before .before .put-word .ensures ∙ ap (λ (l : List ℕ). set l 0 (a .register)) (z .clear .ensures)) ∙ fresh-words (a .requests .now) (a .register)
 
 pub fresh-spec : {M : Type 1} → statement M
 fresh-spec = tie.close (tie.spec clear-requires put-word-requires same-length returns)

@@ -40,7 +40,8 @@ find-requires : tie.Need-find-requires
 find-requires c κs = search needs
 
 returns : tie.Need-returns
-returns c = let a = c .before .before .before .before .before .args in
+returns c =
+    let a = c .before .before .before .before .before .args in
     let w = a .requests .now in
     c .find .ensures
     ∙ ap (λ (l : List ℕ). firstAt (λ x. eqb x (a .name)) (column 3 l)) (live-words w _ _ (c .before .before .count .ensures) (c .before .before .before .least .ensures))

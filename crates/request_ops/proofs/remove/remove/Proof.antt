@@ -17,7 +17,7 @@ same-length c = search needs
 
 returns : tie.Need-returns
 unfolding removeIn
-returns c = c .before .before .remove-at .ensures ∙ ap (removeAt (viewOf (c .before .before .before .before .before .before .before .args .requests .now))) (c .before .before .before .before .place .ensures)
+returns c = let i = c .before .before .before .before in c .before .before .remove-at .ensures ∙ ap (removeAt (viewOf (i .before .before .before .args .requests .now))) (i .place .ensures)
 
 pub remove-spec : {M : Type 1} → statement M
 remove-spec = tie.close (tie.spec place-requires remove-at-requires same-length returns)

@@ -40,8 +40,11 @@ same-length : tie.Need-same-length
 same-length c = search needs
 
 returns : tie.Need-returns
-returns c = let a = c .before .before .before .before .before .before .before .before .args in
-    removed (a .requests .now) (a .i) _ (c .before .before .before .before .before .count .ensures) (c .before .before .before .before .if1 .taken) (c .before .before .shut .last .0) (c .before .before .shut .ensures)
+returns c =
+    let s = c .before .before in
+    let n = s .before .before .before in
+    let a = n .before .before .before .args in
+    removed (a .requests .now) (a .i) _ (n .count .ensures) (s .before .before .if1 .taken) (s .shut .last .0) (s .shut .ensures)
 
 same-length-2 : tie.Need-same-length-2
 same-length-2 c = search needs

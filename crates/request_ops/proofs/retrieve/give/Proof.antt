@@ -48,10 +48,14 @@ same-length : tie.Need-same-length
 same-length c = search needs
 
 returns : tie.Need-returns
-returns c = let a = c .before .before .before .before .before .before .before .before .before .before .before .before .args in
-    let n = length (a .area .now) in (
-      given (a .area .now) (a .q) (c .before .before .before .before .before .before .before .before .before .size .result) (c .before .before .before .before .before .before .before .least .result) (c .before .before .before .before .before .before .least2 .result) (a .room) (c .before .before .before .before .before .before .before .before .before .size .ensures)
-          (c .before .before .before .before .before .before .before .least .ensures ∙ ap (λ (k : ℕ). min (k * 64) n) (c .before .before .before .before .before .before .before .before .wide .ensures .0)) (c .before .before .before .before .before .before .least2 .ensures) (c .cutting .result) (c .cutting .ensures) (a .body .now) _ (c .before .before .before .lay .ensures),
+returns c =
+    let n = c .before .before .before .before .before .before in
+    let w = n .before .before in
+    let a = n .before .before .before .before .before .before .args in
+    let l = length (a .area .now) in (
+      given (a .area .now) (a .q) (w .before .size .result) (n .before .least .result) (n .least2 .result) (a .room) (w .before .size .ensures)
+          (n .before .least .ensures ∙ ap (λ (k : ℕ). min (k * 64) l) (w .wide .ensures .0)) (n .least2 .ensures) (c .cutting .result) (c .cutting .ensures)
+          (a .body .now) _ (c .before .before .before .lay .ensures),
       omega arith,
     )
 

@@ -25,7 +25,8 @@ request-at-requires-2 : tie.Need-request-at-requires-2
 request-at-requires-2 c κs = search needs
 
 returns-2 : tie.Need-returns-2
-returns-2 c = let a = c .before .before .before .before .before .args in
+returns-2 c =
+    let a = c .before .before .before .before .before .args in
     let w = a .requests .now in
     c .request-at2 .ensures
     ∙ ap decode (List·getD-eq-default (viewOf w .rows) noRow {n = c .before .rows .result} (omega arith) ∙ sym (live-past w (a .i) (omega arith)))

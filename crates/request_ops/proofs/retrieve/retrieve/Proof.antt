@@ -1,13 +1,9 @@
 -- `retrieve::retrieve` meets its contract. Assumes nothing.
-use mathlib.Core.Path.{ap, _∙_}
 use native.Mathlib.Omega.{arith}
 use borrow.Author.Needs.{needs}
-use Rattle.model.specs.Plans.{Outcome, cut}
 use Rattle.words.specs.Laws.Said.{said-plain}
-use Rattle.words.specs.Said.{handed}
 use Rattle.request_ops.specs.Laws.Retrieve.{retrieve-own, retrieve-served, retrieve-none}
-use Rattle.request_ops.specs.Retrieve.{dataIn}
-use Rattle.request_rows.specs.Table.{Requests, viewOf}
+use Rattle.request_rows.specs.Table.{viewOf}
 use Rattle.request_ops.proofs.retrieve.retrieve.Statement.{statement}
 use Rattle.request_ops.proofs.retrieve.retrieve.Tie as tie
 
@@ -30,10 +26,15 @@ same-length-2 : tie.Need-same-length-2
 same-length-2 c = search needs
 
 returns : tie.Need-returns
-returns c = let a = c .before .before .before .before .before .before .before .before .before .before .before .before .before .before .before .args in
-    let p = c .before .before .before .before .before .before .put-phase in
-    let e = retrieve-own (a .requests .now) (a .area .now) (a .at) (a .room) _ (c .before .before .before .before .before .before .before .before .before .before .live-at .ensures) _ (c .before .before .before .before .before .before .before .before .before .has-own .ensures) (c .before .before .before .before .before .before .before .before .if1 .taken) (viewOf (p .last .0)) (p .ensures) in
-    (c .before .before .give .ensures .0 (viewOf (p .last .0)) ∙ ap (λ (o : Outcome Requests). handed o (a .body .now)) e, c .before .before .give .ensures .1)
+returns c =
+    let g = c .before .before .give in
+    let p = c .before .before .before .before .before .before in
+    let o = p .before .before .before in
+    let a = o .before .before .before .before .before .before .args in (
+      retrieve-own (a .requests .now) (a .area .now) (a .at) (a .room) _ (o .before .live-at .ensures) _ (o .has-own .ensures) (p .before .before .if1 .taken)
+          (viewOf (p .put-phase .last .0)) (p .put-phase .ensures) (g .result) _ (a .body .now) (g .ensures .0),
+      g .ensures .1,
+    )
 
 server-requires : tie.Need-server-requires
 server-requires c κs = search needs
@@ -57,12 +58,19 @@ same-length-4 : tie.Need-same-length-4
 same-length-4 c = search needs
 
 returns-2 : tie.Need-returns-2
-returns-2 c = let a = c .before .before .before .before .before .before .before .before .before .before .before .before .before .before .before .before .before .before .before .before .before .before .args in
-    let r = c .before .before .before .before .before .before .remove-at in
-    let q = c .before .before .before .before .before .before .before .before .request-at in
-    let e = retrieve-served (a .requests .now) (a .area .now) (a .at) (a .room) _ (c .before .before .before .before .before .before .before .before .before .before .before .before .before .before .before .before .before .live-at .ensures) _ (c .before .before .before .before .before .before .before .before .before .before .before .before .before .before .before .before .has-own .ensures) (c .before .before .before .before .before .before .before .before .before .before .before .before .before .before .before .if1 .left) _ (c .before .before .before .before .before .before .before .before .before .before .before .before .before .server .ensures) (omega arith) (q .result) (q .ensures) in
-    let f = ap (λ (s : Requests). cut s (a .room) (dataIn (a .area .now) (q .result))) (r .ensures) in
-    (c .before .before .give2 .ensures .0 (viewOf (r .last .0)) ∙ ap (λ (o : Outcome Requests). handed o (a .body .now)) (f ∙ e), c .before .before .give2 .ensures .1)
+returns-2 c =
+    let g = c .before .before .give2 in
+    let r = c .before .before .before .before .before .before in
+    let q = r .before .before .request-at in
+    let h = r .before .before .before .before in
+    let j = h .before .before .before in
+    let o = j .before .before .before in
+    let a = o .before .before .before .before .before .before .args in (
+      retrieve-served (a .requests .now) (a .area .now) (a .at) (a .room) _ (o .before .live-at .ensures) _ (o .has-own .ensures) (j .before .before .if1 .left) _ (j .server .ensures)
+          (omega (arith, h .if2 .taken, h .before .count .ensures)) (q .result) (q .ensures) (viewOf (r .remove-at .last .0)) (r .remove-at .ensures)
+          (g .result) _ (a .body .now) (g .ensures .0),
+      g .ensures .1,
+    )
 
 plain-requires : tie.Need-plain-requires
 plain-requires c κs = search needs
@@ -71,8 +79,11 @@ same-length-5 : tie.Need-same-length-5
 same-length-5 c = search needs
 
 returns-3 : tie.Need-returns-3
-returns-3 c = let a = c .before .before .before .before .before .before .before .before .before .before .before .before .before .args in
-    let e = retrieve-none (a .requests .now) (a .area .now) (a .at) (a .room) _ (c .before .before .before .before .before .before .before .before .live-at .ensures) _ (c .before .before .before .before .before .before .before .has-own .ensures) (c .before .before .before .before .before .before .if1 .left) _ (c .before .before .before .before .server .ensures) (omega arith) in
+returns-3 c =
+    let j = c .before .before .before .before in
+    let o = j .before .before .before in
+    let a = o .before .before .before .before .before .before .args in
+    let e = retrieve-none (a .requests .now) (a .area .now) (a .at) (a .room) _ (o .before .live-at .ensures) _ (o .has-own .ensures) (j .before .before .if1 .left) _ (j .server .ensures) (omega arith) in
     let s = said-plain _ _ 0 (viewOf (a .requests .now)) _ (c .plain .ensures) e in
     (s .0 (a .body .now), s .1)
 

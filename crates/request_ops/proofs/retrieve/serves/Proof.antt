@@ -16,7 +16,8 @@ returns : tie.Need-returns
 returns c = rw (sym (c .before .before .before .before .before .before .expired .ensures) ∙ c .before .before .before .before .before .if1 .taken, c .before .before .before .if2 .taken, c .before .if3 .taken) (ap (leb 1) (c .size .ensures))
 
 returns-2 : tie.Need-returns-2
-returns-2 c = let e = c .before .expired .ensures in
+returns-2 c =
+    let e = c .before .expired .ensures in
     ⊎-elim (λ w. rw (sym e ∙ w .0 .taken, w .2 .taken, w .4 .left))
     (⊎-elim (λ w. rw (sym e ∙ w .0 .taken, w .2 .left)) (λ w. rw (sym e ∙ w .left))) (c .if1 .came)
 

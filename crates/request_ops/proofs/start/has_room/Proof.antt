@@ -17,7 +17,8 @@ returns : tie.Need-returns
 returns c = let a = c .before .before .before .before .before .args in rw (lt-ltb (a .m) (length (viewOf (a .requests .now) .rows)) (omega arith), c .least .ensures)
 
 returns-2 : tie.Need-returns-2
-returns-2 c = let a = c .before .before .before .before .args in
+returns-2 c =
+    let a = c .before .before .before .before .args in
     rw (le-ltb (a .m) (length (viewOf (a .requests .now) .rows)) (omega arith)) (le-ltb (a .m) (c .before .rows .result) (omega arith))
 
 pub has-room-spec : {M : Type 1} → statement M

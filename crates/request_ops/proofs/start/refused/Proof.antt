@@ -26,15 +26,23 @@ none-or-known-requires c κs = search needs
 
 returns-4 : tie.Need-returns-4
 unfolding refusal
-returns-4 c = rw (ne-eqb _ _ (c .before .before .before .before .before .before .if1 .left), le-ltb _ _ (c .before .before .before .before .before .if2 .left), le-ltb _ _ (c .before .before .before .before .if3 .left), sym (c .before .before .before .known .ensures) ∙ c .before .before .if4 .taken, sym (c .before .none-or-known .ensures) ∙ c .if5 .taken)
+returns-4 c =
+    let k = c .before .before .before in
+    let s = k .before in
+    rw (ne-eqb _ _ (s .before .before .if1 .left), le-ltb _ _ (s .before .if2 .left), le-ltb _ _ (s .if3 .left), sym (k .known .ensures) ∙ c .before .before .if4 .taken, sym (c .before .none-or-known .ensures) ∙ c .if5 .taken)
 
 returns-5 : tie.Need-returns-5
 unfolding refusal
-returns-5 c = rw (ne-eqb _ _ (c .before .before .before .before .before .before .if1 .left), le-ltb _ _ (c .before .before .before .before .before .if2 .left), le-ltb _ _ (c .before .before .before .before .if3 .left), sym (c .before .before .before .known .ensures) ∙ c .before .before .if4 .taken, sym (c .before .none-or-known .ensures) ∙ c .if5 .left)
+returns-5 c =
+    let k = c .before .before .before in
+    let s = k .before in
+    rw (ne-eqb _ _ (s .before .before .if1 .left), le-ltb _ _ (s .before .if2 .left), le-ltb _ _ (s .if3 .left), sym (k .known .ensures) ∙ c .before .before .if4 .taken, sym (c .before .none-or-known .ensures) ∙ c .if5 .left)
 
 returns-6 : tie.Need-returns-6
 unfolding refusal
-returns-6 c = rw (ne-eqb _ _ (c .before .before .before .before .if1 .left), le-ltb _ _ (c .before .before .before .if2 .left), le-ltb _ _ (c .before .before .if3 .left), sym (c .before .known .ensures) ∙ c .if4 .left)
+returns-6 c =
+    let s = c .before .before in
+    rw (ne-eqb _ _ (s .before .before .if1 .left), le-ltb _ _ (s .before .if2 .left), le-ltb _ _ (s .if3 .left), sym (c .before .known .ensures) ∙ c .if4 .left)
 
 pub refused-spec : {M : Type 1} → statement M
 refused-spec =

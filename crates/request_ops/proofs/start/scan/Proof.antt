@@ -24,9 +24,11 @@ request-at-requires : tie.Need-request-at-requires Inv-loop μ-loop
 request-at-requires c κs = search needs
 
 returns : tie.Need-returns Inv-loop μ-loop
-returns c = let a = c .before .before .before .before .before .before .before .before .args in
-    let l = c .before .before .before .before .loop in
-    passing-hit (a .requests .now) (a .name) _ (l .i) _ (l .inv) (c .before .before .before .loop-test .taken) (c .before .before .request-at .result) (c .before .before .request-at .ensures) (c .if1 .taken)
+returns c =
+    let l = c .before .before .before .before in
+    let a = l .before .before .before .before .args in
+    let q = c .before .before .request-at in
+    passing-hit (a .requests .now) (a .name) _ (l .loop .i) _ (l .loop .inv) (c .before .before .before .loop-test .taken) (q .result) (q .ensures) (c .if1 .taken)
 
 wide-requires : tie.Need-wide-requires Inv-loop μ-loop
 wide-requires c κs = search needs
@@ -41,9 +43,11 @@ loop-less : tie.Need-loop-less Inv-loop μ-loop
 loop-less c = search needs
 
 loop-again : tie.Need-loop-again Inv-loop μ-loop
-loop-again c = let a = c .before .before .before .before .before .before .before .before .before .before .args in
-    let l = c .before .before .before .before .before .before .loop in
-    passing-on (a .requests .now) (a .name) _ (l .i) _ (l .inv) (c .before .before .before .before .before .loop-test .taken) (c .before .before .before .before .request-at .result) (c .before .before .before .before .request-at .ensures) (c .before .before .if1 .left)
+loop-again c =
+    let l = c .before .before .before .before .before .before in
+    let a = l .before .before .before .before .args in
+    let q = c .before .before .before .before .request-at in
+    passing-on (a .requests .now) (a .name) _ (l .loop .i) _ (l .loop .inv) (c .before .before .before .before .before .loop-test .taken) (q .result) (q .ensures) (c .before .before .if1 .left)
     _ (c .before .wide .ensures .0) _ (c .mark .ensures .0)
 
 returns-2 : tie.Need-returns-2 Inv-loop μ-loop

@@ -2,14 +2,14 @@
 use Prim.Native.Nat.{_-_}
 use mathlib.Core.Logic.{⊎-elim}
 use borrow.Author.Needs.{needs}
-use Rattle.request_ops.specs.Laws.Tasks.{Seeks, task-none, task-hit, task-idle, task-other}
-use Rattle.request_rows.specs.Laws.View.{live-sought}
+use Rattle.request_rows.specs.Laws.View.{Seeks, live-sought}
+use Rattle.request_ops.specs.Laws.Tasks.{task-none, task-hit, task-idle, task-other}
 use Rattle.request_rows.specs.Active.{task}
 use Rattle.request_ops.proofs.tasks.task_at.Statement.{statement}
 use Rattle.request_ops.proofs.tasks.task_at.Tie as tie
 
 abbrev Inv-loop : tie.InvT-loop
-Inv-loop requests name m i₀ i = Seeks requests name m i
+Inv-loop requests name m i₀ i = Seeks (task name) requests m i
 
 abbrev μ-loop : tie.MeasureT-loop
 μ-loop requests name m i₀ i = m - i
@@ -27,9 +27,11 @@ active-requires : tie.Need-active-requires Inv-loop μ-loop
 active-requires c κs = search needs
 
 returns : tie.Need-returns Inv-loop μ-loop
-returns c = let a = c .before .before .before .before .before .before .before .before .before .args in
-    let l = c .before .before .before .before .before .before .loop in
-    task-hit (a .requests .now) (a .name) _ (l .i) (l .inv) (c .before .before .before .before .before .loop-test .taken) (c .before .before .before .before .request-at .result) (c .before .before .before .before .request-at .ensures) (c .before .before .if1 .taken) _ (c .before .active .ensures) (c .if2 .taken)
+returns c =
+    let l = c .before .before .before .before .before .before in
+    let a = l .before .before .before .args in
+    let q = c .before .before .before .before .request-at in
+    task-hit (a .requests .now) (a .name) _ (l .loop .i) (l .loop .inv) (c .before .before .before .before .before .loop-test .taken) (q .result) (q .ensures) _ (c .before .active .ensures) (c .before .before .if1 .taken) (c .if2 .taken)
 
 add-i : tie.Need-add-i Inv-loop μ-loop
 add-i c = search needs
@@ -38,11 +40,13 @@ loop-less : tie.Need-loop-less Inv-loop μ-loop
 loop-less c = search needs
 
 loop-again : tie.Need-loop-again Inv-loop μ-loop
-loop-again c = let a = c .before .before .before .before .before .before .before .args in
-    let l = c .before .before .before .before .loop in
+loop-again c =
+    let l = c .before .before .before .before in
+    let a = l .before .before .before .args in
+    let h = c .before .before .before .loop-test .taken in
     let q = c .before .before .request-at in
-    ⊎-elim (λ w. task-idle (a .requests .now) (a .name) _ (l .i) (l .inv) (c .before .before .before .loop-test .taken) (q .result) (q .ensures) _ (w .1 .ensures) (w .2 .left))
-    (λ w. task-other (a .requests .now) (a .name) _ (l .i) (l .inv) (c .before .before .before .loop-test .taken) (q .result) (q .ensures) (w .left)) (c .if1 .came)
+    ⊎-elim (λ t. task-idle (a .requests .now) (a .name) _ (l .loop .i) (l .loop .inv) h (q .result) (q .ensures) _ (t .1 .ensures) (t .2 .left))
+    (λ t. task-other (a .requests .now) (a .name) _ (l .loop .i) (l .loop .inv) h (q .result) (q .ensures) (t .left)) (c .if1 .came)
 
 returns-2 : tie.Need-returns-2 Inv-loop μ-loop
 returns-2 c = let a = c .before .before .before .before .args in task-none (a .requests .now) (a .name) _ (c .before .loop .i) (c .before .loop .inv) (c .loop-test .left)
