@@ -1,0 +1,3 @@
+// The run of a list over lent tables.
+pub mod fresh;
+pub mod run;
