@@ -25,6 +25,11 @@ module _ {S : Type 0} (s : S) (o : Outcome S) (r : Said) where
       → (b : List ℕ) → gave r s b ≡ handed o b
   plainly c n e f b = gave-none r s o (ap (λ (x : Said). told x [] s) e ∙ f) (ap (λ (x : Said). x .len) e) b
 
+  -- the body is kept, and no byte is given
+  pub plain-said : (c : Condition) (n : ℕ) → r ≡ saying c n 0 → record { condition = codeOf c; number = n; bytes = []; state = s } ≡ o
+      → ((b : List ℕ) → gave r s b ≡ handed o b) × (r .len ≤ 64)
+  plain-said c n e f = (plainly c n e f, rw e (omega arith))
+
 -- ---- an item of `full` bytes at a place, cut to the room
 
 module _ (items : List ℕ) (at full room n : ℕ) (fits : at + full ≤ length items) (e : n ≡ min full room) where
@@ -64,3 +69,11 @@ pub through : {S : Type 0} (l : Columns) (w v : List ℕ) (n m : ℕ) (g : Queue
 through {S} l w v n m g f r a b z e k h =
     ap (λ (j : ℕ). gave r (g (viewOf v j)) a) k ∙ ap (λ (q : Queues). gave r (g q) a) (sees l v (length w) n e z) ∙ h
     ∙ ap (λ (q : Queues). handed (f q) b) (sym (sees l w (length w) n refl z))
+
+pub plain-seen : {S : Type 0} (l : Columns) (w v : List ℕ) (n m : ℕ) (g : Queues → S) (f : Queues → Outcome S) (r : Said) (c : Condition) (k : ℕ)
+    → Sized (length w) n l → length v ≡ length w → m ≡ n → r ≡ saying c k 0
+    → record { condition = codeOf c; number = k; bytes = []; state = g (seen l v) } ≡ f (seen l w)
+    → ((b : List ℕ) → gave r (g (viewOf v m)) b ≡ handed (f (viewOf w n)) b) × (r .len ≤ 64)
+plain-seen {S} l w v n m g f r c k z e j h i =
+    let s = plain-said (g (seen l v)) (f (seen l w)) r c k h i in
+    (λ b. through l w v n m g f r b b z e j (s .0 b), s .1)

@@ -148,31 +148,45 @@ module _ (l : Columns) (w : List ℕ) (h : Laid (length w) l) (long : 3 ≤ leng
       let c : copies name (take n (p .owner)) ≡ copies name (owners p) = ap (copies name) owners-is in
       omega (arith, swept .kept, others-long name (take n (p .owner)), owners-long)
 
+  -- the columns that are left, as long as they were
+  abbrev os : List ℕ
+  os = over (othersThan name (owners p)) (p .owner)
+
+  abbrev ss : List ℕ
+  ss = over (slotsBut name (owners p) (places p)) (p .slot)
+
+  some-left : length (othersThan name (owners p)) ≤ l .slots
+  some-left = omega (arith, others-long name (owners p), length-take (entries p) (p .owner), owner-lies l w h .long)
+
+  os-long : length os ≡ l .slots
+  os-long = length-over (othersThan name (owners p)) (p .owner) (omega (arith, some-left, owner-lies l w h .long)) ∙ owner-lies l w h .long
+
+  ss-long : length ss ≡ l .slots
+  ss-long =
+      let same : length (owners p) ≡ length (places p) =
+      length-take (entries p) (p .owner) ∙ ap (min (entries p)) (owner-lies l w h .long ∙ sym (slot-lies l w h .long)) ∙ sym (length-take (entries p) (p .slot)) in
+      length-over (slotsBut name (owners p) (places p)) (p .slot) (omega (arith, some-left, but-long name (owners p) (places p) same, slot-lies l w h .long))
+      ∙ slot-lies l w h .long
+
+  left : t ≡ os ++ ss
+  left = swept .left ∙ ap₂ (λ (x y : List ℕ). over (othersThan name x) (p .owner) ++ over (slotsBut name x y) (p .slot)) owners-is places-is
+
+  left-used : v ≡ clearAll (p .used) (slotsNamed p name)
+  left-used =
+      swept .used ∙ ap (λ (y : Used). clearAll y (slotsOf name (take n (p .owner)) (take n (p .slot)))) eu
+      ∙ ap₂ (λ (y z : List ℕ). clearAll (p .used) (slotsOf name y z)) owners-is places-is
+
   pub emptied-left : seen l (set (set (putMid (l .owner) (l .len - l .owner) w t) 1 (v .lo)) 2 (v .hi)) ≡ emptied (seen l w) name
   unfolding emptied
   emptied-left =
-      let os : List ℕ = over (othersThan name (owners p)) (p .owner) in
-      let ss : List ℕ = over (slotsBut name (owners p) (places p)) (p .slot) in
       let size : l .len - l .owner ≡ l .slots + l .slots = omega arith in
-      let same : length (owners p) ≡ length (places p) =
-      length-take (entries p) (p .owner) ∙ ap (min (entries p)) (owner-lies l w h .long ∙ sym (slot-lies l w h .long)) ∙ sym (length-take (entries p) (p .slot)) in
-      let bound = length-take (entries p) (p .owner) in
-      let few : length (othersThan name (owners p)) ≤ l .slots = omega (arith, others-long name (owners p), owner-lies l w h .long) in
-      let os-long : length os ≡ l .slots = length-over (othersThan name (owners p)) (p .owner) (omega (arith, owner-lies l w h .long)) ∙ owner-lies l w h .long in
-      let ss-long : length ss ≡ l .slots =
-      length-over (slotsBut name (owners p) (places p)) (p .slot) (omega (arith, but-long name (owners p) (places p) same, slot-lies l w h .long)) ∙ slot-lies l w h .long in
-      let left : t ≡ os ++ ss =
-      swept .left ∙ ap₂ (λ (x y : List ℕ). over (othersThan name x) (p .owner) ++ over (slotsBut name x y) (p .slot)) owners-is places-is in
       let x : List ℕ = putMid (l .owner) (l .slots + l .slots) w (os ++ ss) in
       let mid : length (os ++ ss) ≡ length (take (l .slots + l .slots) (drop (l .owner) w)) =
       length-append os ss ∙ ap₂ (λ (x y : ℕ). x + y) os-long ss-long ∙ sym (part-long (l .owner) (l .slots + l .slots) w (omega arith)) in
       let x-long : length x ≡ length w = same-len-mid (l .owner) (l .slots + l .slots) w (os ++ ss) mid in
-      let cleared : v ≡ clearAll (p .used) (slotsNamed p name) =
-      swept .used ∙ ap (λ (y : Used). clearAll y (slotsOf name (take n (p .owner)) (take n (p .slot)))) eu
-      ∙ ap₂ (λ (y z : List ℕ). clearAll (p .used) (slotsOf name y z)) owners-is places-is in
       ap₂ (λ (k : ℕ) (y : List ℕ). seen l (set (set (putMid (l .owner) k w y) 1 (v .lo)) 2 (v .hi))) size left
       ∙ used-stored l x (laid-as x-long h) v (omega arith)
-      ∙ ap₂ withUsed cleared (entries-put l w h long os ss os-long ss-long)
+      ∙ ap₂ withUsed left-used (entries-put l w h long os ss os-long ss-long)
 
 -- ---- the cases
 

@@ -1,7 +1,6 @@
 -- `queue_ops::append::append` meets its contract. Assumes nothing.
 use mathlib.Core.Path.{_≡_, refl, sym, ap, _∙_}
 use Prim.Native.Nat.{ℕ, min}
-use native.Mathlib.Omega.{arith}
 use borrow.Author.Needs.{needs}
 use lib.ListN.{length}
 use Rattle.slots.specs.Bits.{freeFor}
@@ -12,7 +11,7 @@ use Rattle.queue_rows.specs.Table.{Queues, viewOf, Store, store}
 use Rattle.queue_rows.specs.Append.{inSlot, appendTo}
 use Rattle.queue_rows.specs.Layout.{seen}
 use Rattle.queue_rows.specs.Laws.Columns.{slot-lies}
-use Rattle.queue_ops.proofs.Answers.{plainly, through}
+use Rattle.queue_ops.proofs.Answers.{plain-said, plain-seen, through}
 use Rattle.queue_ops.proofs.AppendCases.{append-blank, append-length, append-full, append-slot}
 use Rattle.queue_ops.proofs.append.append.Statement.{statement}
 use Rattle.queue_ops.proofs.append.append.Tie as tie
@@ -26,11 +25,9 @@ plain-requires c κs = search needs
 returns : tie.Need-returns
 returns c =
     let a = c .before .before .before .before .before .args in
-    let q = viewOf (a .queues .now) (length (a .items .now)) in (
-      plainly (store q (a .items .now)) (appendTo q (a .items .now) (a .may) (a .name) (a .item .now)) (c .plain .result) InvalidRequest 0 (c .plain .ensures)
-          (append-blank q (a .items .now) (a .may) (a .name) (a .item .now) (c .before .if1 .taken)),
-      rw (c .plain .ensures) (omega arith),
-    )
+    let q = viewOf (a .queues .now) (length (a .items .now)) in
+    plain-said (store q (a .items .now)) (appendTo q (a .items .now) (a .may) (a .name) (a .item .now)) (c .plain .result) InvalidRequest 0 (c .plain .ensures)
+    (append-blank q (a .items .now) (a .may) (a .name) (a .item .now) (c .before .if1 .taken))
 
 wrong-length-requires : tie.Need-wrong-length-requires
 wrong-length-requires c κs = search needs
@@ -43,11 +40,9 @@ returns-2 c =
     let t = c .before in
     let w = t .before in
     let a = first (w .before) .args in
-    let q = viewOf (a .queues .now) (length (a .items .now)) in (
-      plainly (store q (a .items .now)) (appendTo q (a .items .now) (a .may) (a .name) (a .item .now)) (c .plain2 .result) WrongLength 0 (c .plain2 .ensures)
-          (append-length q (a .items .now) (a .may) (a .name) (a .item .now) (w .before .if1 .left) (sym (w .wrong-length .ensures) ∙ t .if2 .taken)),
-      rw (c .plain2 .ensures) (omega arith),
-    )
+    let q = viewOf (a .queues .now) (length (a .items .now)) in
+    plain-said (store q (a .items .now)) (appendTo q (a .items .now) (a .may) (a .name) (a .item .now)) (c .plain2 .result) WrongLength 0 (c .plain2 .ensures)
+    (append-length q (a .items .now) (a .may) (a .name) (a .item .now) (w .before .if1 .left) (sym (w .wrong-length .ensures) ∙ t .if2 .taken))
 
 layout-requires : tie.Need-layout-requires
 layout-requires c κs = search needs
@@ -104,16 +99,12 @@ returns-4 c =
     let l = o .layout .result in
     let q = seen l (a .queues .now) in
     let p = seen l (r .with-row .last .0) in
-    let same : length (r .with-row .last .0) ≡ length (a .queues .now) = search needs in (
-      λ b.
-          through l (a .queues .now) (r .with-row .last .0) (length (a .items .now)) (length (a .items .now)) (λ (x : Queues). store x (a .items .now))
-          (λ (x : Queues). appendTo x (a .items .now) (a .may) (a .name) (a .item .now)) (c .plain3 .result) b b (o .layout .ensures .1) same refl
-          (plainly (store p (a .items .now)) (appendTo q (a .items .now) (a .may) (a .name) (a .item .now)) (c .plain3 .result) NoSpace 0 (c .plain3 .ensures)
-          (append-full q (a .items .now) (a .may) (a .name) (a .item .now) (e .before .before .if1 .left) (sym (e .before .wrong-length .ensures) ∙ e .if2 .left) p
-          (r .with-row .result) (r .with-row .ensures) (t .if3 .left))
-          b),
-      rw (c .plain3 .ensures) (omega arith),
-    )
+    let same : length (r .with-row .last .0) ≡ length (a .queues .now) = search needs in
+    plain-seen l (a .queues .now) (r .with-row .last .0) (length (a .items .now)) (length (a .items .now)) (λ (x : Queues). store x (a .items .now))
+    (λ (x : Queues). appendTo x (a .items .now) (a .may) (a .name) (a .item .now)) (c .plain3 .result) NoSpace 0
+    (o .layout .ensures .1) same refl (c .plain3 .ensures)
+    (append-full q (a .items .now) (a .may) (a .name) (a .item .now) (e .before .before .if1 .left) (sym (e .before .wrong-length .ensures) ∙ e .if2 .left) p
+    (r .with-row .result) (r .with-row .ensures) (t .if3 .left))
 
 pub append-spec : {M : Type 1} → statement M
 append-spec =

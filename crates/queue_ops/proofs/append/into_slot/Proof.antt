@@ -13,7 +13,7 @@ use Rattle.words.specs.declared.said.Condition.the-variants.{Normal, NoSpace}
 use Rattle.queue_rows.specs.Table.{store}
 use Rattle.queue_rows.specs.Layout.{seen}
 use Rattle.queue_rows.specs.Laws.Columns.{owner-lies}
-use Rattle.queue_ops.proofs.Answers.{plainly}
+use Rattle.queue_ops.proofs.Answers.{plain-said}
 use Rattle.queue_ops.proofs.AppendCases.{Within, within, slot-none, slot-taken}
 use Rattle.queue_ops.proofs.append.into_slot.Statement.{statement}
 use Rattle.queue_ops.proofs.append.into_slot.Tie as tie
@@ -88,11 +88,9 @@ returns c =
     let m = c .before in
     let f = m .before .before in
     let a = first f .args in
-    let q = seen (a .l) (a .queues .now) in (
-      plainly (store q (a .items .now)) _ (c .plain .result) NoSpace 0 (c .plain .ensures)
-          (slot-none q (a .items .now) (a .name) (a .item .now) _ (sym (free f) ∙ m .enum-told .given .1)),
-      rw (c .plain .ensures) (omega arith),
-    )
+    let q = seen (a .l) (a .queues .now) in
+    plain-said (store q (a .items .now)) _ (c .plain .result) NoSpace 0 (c .plain .ensures)
+    (slot-none q (a .items .now) (a .name) (a .item .now) _ (sym (free f) ∙ m .enum-told .given .1))
 
 count-requires : tie.Need-count-requires
 count-requires c κs = search needs
@@ -152,12 +150,10 @@ returns-2 c =
     let v = n .before .before in
     let f = v .before .before in
     let a = first f .args in
-    let q = seen (a .l) (a .queues .now) in (
-      plainly (store (seen (a .l) (x .enter .last .0)) (y .store .last .0)) _ (c .plain2 .result) Normal (t .tally .result + 1) (c .plain2 .ensures)
-          (slot-taken q (a .items .now) (a .name) (a .item .now) _ (v .free .given .0 .0) (n .count .result) (t .tally .result) (f .before .before .used .result) (m .mark .result) _ _
-          (sym (free f) ∙ v .free .given .1) (f .before .before .used .ensures) (m .mark .ensures .0) (n .count .ensures) (counted t) (x .enter .ensures) (y .store .ensures)),
-      rw (c .plain2 .ensures) (omega arith),
-    )
+    let q = seen (a .l) (a .queues .now) in
+    plain-said (store (seen (a .l) (x .enter .last .0)) (y .store .last .0)) _ (c .plain2 .result) Normal (t .tally .result + 1) (c .plain2 .ensures)
+    (slot-taken q (a .items .now) (a .name) (a .item .now) _ (v .free .given .0 .0) (n .count .result) (t .tally .result) (f .before .before .used .result) (m .mark .result) _ _
+    (sym (free f) ∙ v .free .given .1) (f .before .before .used .ensures) (m .mark .ensures .0) (n .count .ensures) (counted t) (x .enter .ensures) (y .store .ensures))
 
 pub into-slot-spec : {M : Type 1} → statement M
 into-slot-spec =

@@ -11,7 +11,7 @@ use Rattle.queue_rows.specs.Table.{Queues, viewOf, namesOf, entries, owners}
 use Rattle.queue_rows.specs.Delete.{deleteFrom}
 use Rattle.queue_rows.specs.Layout.{seen}
 use Rattle.queue_rows.specs.Laws.Columns.{names-lies, owner-lies, laid-as}
-use Rattle.queue_ops.proofs.Answers.{plainly, through}
+use Rattle.queue_ops.proofs.Answers.{plain-said, plain-seen}
 use Rattle.queue_ops.proofs.Seeks.{copies-le}
 use Rattle.queue_ops.proofs.DeleteCases.{delete-blank, delete-unknown, delete-done}
 use Rattle.queue_ops.proofs.delete.delete.Statement.{statement}
@@ -62,10 +62,9 @@ plain-requires c κs = search needs
 returns : tie.Need-returns
 returns c =
     let a = c .before .before .before .before .args in
-    let q = viewOf (a .queues .now) (length (a .items .now)) in (
-      plainly q (deleteFrom q (a .name)) (c .plain .result) InvalidRequest 0 (c .plain .ensures) (delete-blank q (a .name) (c .before .if1 .taken)),
-      rw (c .plain .ensures) (omega arith),
-    )
+    let q = viewOf (a .queues .now) (length (a .items .now)) in
+    plain-said q (deleteFrom q (a .name)) (c .plain .result) InvalidRequest 0 (c .plain .ensures)
+    (delete-blank q (a .name) (c .before .if1 .taken))
 
 layout-requires : tie.Need-layout-requires
 layout-requires c κs = search needs
@@ -86,14 +85,11 @@ returns-2 c =
     let o = r .before .before in
     let a = first o .args in
     let l = o .layout .result in
-    let q = seen l (a .queues .now) in (
-      λ b.
-          through l (a .queues .now) (a .queues .now) (length (a .items .now)) (length (a .items .now)) (λ (x : Queues). x) (λ (x : Queues). deleteFrom x (a .name))
-          (c .plain2 .result) b b (o .layout .ensures .1) refl refl
-          (plainly q (deleteFrom q (a .name)) (c .plain2 .result) UnknownQueue 0 (c .plain2 .ensures)
-          (delete-unknown q (a .name) (o .before .if1 .left) (r .row-of .ensures .unknown (t .if2 .taken))) b),
-      rw (c .plain2 .ensures) (omega arith),
-    )
+    let q = seen l (a .queues .now) in
+    plain-seen l (a .queues .now) (a .queues .now) (length (a .items .now)) (length (a .items .now)) (λ (x : Queues). x)
+    (λ (x : Queues). deleteFrom x (a .name)) (c .plain2 .result) UnknownQueue 0
+    (o .layout .ensures .1) refl refl (c .plain2 .ensures)
+    (delete-unknown q (a .name) (o .before .if1 .left) (r .row-of .ensures .unknown (t .if2 .taken)))
 
 shut-row-requires : tie.Need-shut-row-requires
 shut-row-requires c κs =
@@ -125,16 +121,12 @@ returns-3 c =
     let a = first o .args in
     let l = o .layout .result in
     let q = seen l (a .queues .now) in
-    let same : length (w .sweep .last .0) ≡ length (a .queues .now) = search needs in (
-      λ b.
-          through l (a .queues .now) (w .sweep .last .0) (length (a .items .now)) (length (a .items .now)) (λ (x : Queues). x) (λ (x : Queues). deleteFrom x (a .name))
-          (c .plain3 .result) b b (o .layout .ensures .1) same refl
-          (plainly (seen l (w .sweep .last .0)) (deleteFrom q (a .name)) (c .plain3 .result) Normal (w .sweep .result) (c .plain3 .ensures)
-          (delete-done q (a .name) (o .before .if1 .left) (r .row-of .ensures .known (e .if2 .left)) (seen l (x .shut-row .last .0)) (seen l (w .sweep .last .0))
-          (r .row-of .result) (w .sweep .result) (r .row-of .ensures .at (e .if2 .left)) (x .shut-row .ensures) (w .sweep .ensures .1) (w .sweep .ensures .0))
-          b),
-      rw (c .plain3 .ensures) (omega arith),
-    )
+    let same : length (w .sweep .last .0) ≡ length (a .queues .now) = search needs in
+    plain-seen l (a .queues .now) (w .sweep .last .0) (length (a .items .now)) (length (a .items .now)) (λ (x : Queues). x)
+    (λ (x : Queues). deleteFrom x (a .name)) (c .plain3 .result) Normal (w .sweep .result)
+    (o .layout .ensures .1) same refl (c .plain3 .ensures)
+    (delete-done q (a .name) (o .before .if1 .left) (r .row-of .ensures .known (e .if2 .left)) (seen l (x .shut-row .last .0)) (seen l (w .sweep .last .0))
+    (r .row-of .result) (w .sweep .result) (r .row-of .ensures .at (e .if2 .left)) (x .shut-row .ensures) (w .sweep .ensures .1) (w .sweep .ensures .0))
 
 pub delete-spec : {M : Type 1} → statement M
 delete-spec =

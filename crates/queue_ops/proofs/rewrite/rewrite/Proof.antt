@@ -12,7 +12,7 @@ use Rattle.queue_rows.specs.Table.{Queues, viewOf, store}
 use Rattle.queue_rows.specs.Place.{slotIn}
 use Rattle.queue_rows.specs.Rewrite.{rewriteIn}
 use Rattle.queue_rows.specs.Layout.{seen}
-use Rattle.queue_ops.proofs.Answers.{plainly, through}
+use Rattle.queue_ops.proofs.Answers.{plain-said, plain-seen}
 use Rattle.queue_ops.proofs.ReadCases.{slot-before}
 use Rattle.queue_ops.proofs.RewriteCases.{rewrite-blank, rewrite-length, rewrite-unknown, missing, rewritten}
 use Rattle.queue_ops.proofs.rewrite.rewrite.Statement.{statement}
@@ -57,11 +57,9 @@ plain-requires c κs = search needs
 returns : tie.Need-returns
 returns c =
     let a = c .before .before .before .before .before .args in
-    let q = viewOf (a .queues .now) (length (a .items .now)) in (
-      plainly (store q (a .items .now)) (rewriteIn q (a .items .now) (a .name) (a .place) (a .item .now)) (c .plain .result) InvalidRequest 0 (c .plain .ensures)
-          (rewrite-blank q (a .items .now) (a .name) (a .place) (a .item .now) (c .before .if1 .taken)),
-      rw (c .plain .ensures) (omega arith),
-    )
+    let q = viewOf (a .queues .now) (length (a .items .now)) in
+    plain-said (store q (a .items .now)) (rewriteIn q (a .items .now) (a .name) (a .place) (a .item .now)) (c .plain .result) InvalidRequest 0 (c .plain .ensures)
+    (rewrite-blank q (a .items .now) (a .name) (a .place) (a .item .now) (c .before .if1 .taken))
 
 wrong-length-requires : tie.Need-wrong-length-requires
 wrong-length-requires c κs = search needs
@@ -74,11 +72,9 @@ returns-2 c =
     let t = c .before in
     let w = t .before in
     let a = first (w .before) .args in
-    let q = viewOf (a .queues .now) (length (a .items .now)) in (
-      plainly (store q (a .items .now)) (rewriteIn q (a .items .now) (a .name) (a .place) (a .item .now)) (c .plain2 .result) WrongLength 0 (c .plain2 .ensures)
-          (rewrite-length q (a .items .now) (a .name) (a .place) (a .item .now) (w .before .if1 .left) (sym (w .wrong-length .ensures) ∙ t .if2 .taken)),
-      rw (c .plain2 .ensures) (omega arith),
-    )
+    let q = viewOf (a .queues .now) (length (a .items .now)) in
+    plain-said (store q (a .items .now)) (rewriteIn q (a .items .now) (a .name) (a .place) (a .item .now)) (c .plain2 .result) WrongLength 0 (c .plain2 .ensures)
+    (rewrite-length q (a .items .now) (a .name) (a .place) (a .item .now) (w .before .if1 .left) (sym (w .wrong-length .ensures) ∙ t .if2 .taken))
 
 layout-requires : tie.Need-layout-requires
 layout-requires c κs = search needs
@@ -99,15 +95,11 @@ returns-3 c =
     let o = r .before .before in
     let a = start o .args in
     let l = o .layout .result in
-    let q = seen l (a .queues .now) in (
-      λ b.
-          through l (a .queues .now) (a .queues .now) (length (a .items .now)) (length (a .items .now)) (λ (x : Queues). store x (a .items .now))
-          (λ (x : Queues). rewriteIn x (a .items .now) (a .name) (a .place) (a .item .now)) (c .plain3 .result) b b (o .layout .ensures .1) refl refl
-          (plainly (store q (a .items .now)) (rewriteIn q (a .items .now) (a .name) (a .place) (a .item .now)) (c .plain3 .result) UnknownQueue 0 (c .plain3 .ensures)
-          (rewrite-unknown q (a .items .now) (a .name) (a .place) (a .item .now) (o .before .before .before .if1 .left) (right o) (r .row-of .ensures .unknown (t .if3 .taken)))
-          b),
-      rw (c .plain3 .ensures) (omega arith),
-    )
+    let q = seen l (a .queues .now) in
+    plain-seen l (a .queues .now) (a .queues .now) (length (a .items .now)) (length (a .items .now)) (λ (x : Queues). store x (a .items .now))
+    (λ (x : Queues). rewriteIn x (a .items .now) (a .name) (a .place) (a .item .now)) (c .plain3 .result) UnknownQueue 0
+    (o .layout .ensures .1) refl refl (c .plain3 .ensures)
+    (rewrite-unknown q (a .items .now) (a .name) (a .place) (a .item .now) (o .before .before .before .if1 .left) (right o) (r .row-of .ensures .unknown (t .if3 .taken)))
 
 others-before-requires : tie.Need-others-before-requires
 others-before-requires c κs = search needs
@@ -130,16 +122,12 @@ returns-4 c =
     let o = r .before .before in
     let a = start o .args in
     let l = o .layout .result in
-    let q = seen l (a .queues .now) in (
-      λ b.
-          through l (a .queues .now) (a .queues .now) (length (a .items .now)) (length (a .items .now)) (λ (x : Queues). store x (a .items .now))
-          (λ (x : Queues). rewriteIn x (a .items .now) (a .name) (a .place) (a .item .now)) (c .plain4 .result) b b (o .layout .ensures .1) refl refl
-          (plainly (store q (a .items .now)) (rewriteIn q (a .items .now) (a .name) (a .place) (a .item .now)) (c .plain4 .result) NoSuchItem 0 (c .plain4 .ensures)
-          (missing l (a .queues .now) (a .items .now) (o .layout .ensures .0) (a .name) (a .place) (a .item .now) (o .before .before .before .if1 .left) (right o)
-          (r .row-of .ensures .known (e .if3 .left)) (f .slot-behind .result) (there f) (t .if4 .taken))
-          b),
-      rw (c .plain4 .ensures) (omega arith),
-    )
+    let q = seen l (a .queues .now) in
+    plain-seen l (a .queues .now) (a .queues .now) (length (a .items .now)) (length (a .items .now)) (λ (x : Queues). store x (a .items .now))
+    (λ (x : Queues). rewriteIn x (a .items .now) (a .name) (a .place) (a .item .now)) (c .plain4 .result) NoSuchItem 0
+    (o .layout .ensures .1) refl refl (c .plain4 .ensures)
+    (missing l (a .queues .now) (a .items .now) (o .layout .ensures .0) (a .name) (a .place) (a .item .now) (o .before .before .before .if1 .left) (right o)
+    (r .row-of .ensures .known (e .if3 .left)) (f .slot-behind .result) (there f) (t .if4 .taken))
 
 add-at : tie.Need-add-at
 add-at c = omega (arith, inside (c .before), held (start (sought (c .before .before .before))))
@@ -175,18 +163,13 @@ returns-5 c =
     let o = r .before .before in
     let a = start o .args in
     let l = o .layout .result in
-    let q = seen l (a .queues .now) in
     let v : List ℕ = set (a .queues .now) (l .len + f .slot-behind .result) (length (a .item .now)) in
-    let bytes : length (y .store .last .0) ≡ length (a .items .now) = search needs in (
-      λ b.
-          through l (a .queues .now) v (length (a .items .now)) (length (y .store .last .0)) (λ (x : Queues). store x (y .store .last .0))
-          (λ (x : Queues). rewriteIn x (a .items .now) (a .name) (a .place) (a .item .now)) (c .plain5 .result) b b (o .layout .ensures .1) (simp length-set) bytes
-          (plainly (store (seen l v) (y .store .last .0)) (rewriteIn q (a .items .now) (a .name) (a .place) (a .item .now)) (c .plain5 .result) Normal 0 (c .plain5 .ensures)
-          (rewritten l (a .queues .now) (a .items .now) (o .layout .ensures .0) (a .name) (a .place) (a .item .now) (o .before .before .before .if1 .left) (right o)
-          (r .row-of .ensures .known (e .if3 .left)) (f .slot-behind .result) (there f) (g .if4 .left) (y .store .last .0) (y .store .ensures))
-          b),
-      rw (c .plain5 .ensures) (omega arith),
-    )
+    let bytes : length (y .store .last .0) ≡ length (a .items .now) = search needs in
+    plain-seen l (a .queues .now) v (length (a .items .now)) (length (y .store .last .0)) (λ (x : Queues). store x (y .store .last .0))
+    (λ (x : Queues). rewriteIn x (a .items .now) (a .name) (a .place) (a .item .now)) (c .plain5 .result) Normal 0
+    (o .layout .ensures .1) (simp length-set) bytes (c .plain5 .ensures)
+    (rewritten l (a .queues .now) (a .items .now) (o .layout .ensures .0) (a .name) (a .place) (a .item .now) (o .before .before .before .if1 .left) (right o)
+    (r .row-of .ensures .known (e .if3 .left)) (f .slot-behind .result) (there f) (g .if4 .left) (y .store .last .0) (y .store .ensures))
 
 pub rewrite-spec : {M : Type 1} → statement M
 rewrite-spec =
