@@ -1,6 +1,8 @@
 // Many lists in one run: each line of standard input is a list in hex. Prints the lines of each as the list program does, and
 // a line `.` behind them, as `second --many` does, so that the two can be compared. A line that is not hex holds no list, and
 // is refused as no bytes are.
+#![tactic(auto)]
+
 ghost use Rattle.std.specs.Prelude.{◌<◌};
 ghost use Rattle.io.specs.Counts.{IsPrefixLen};
 

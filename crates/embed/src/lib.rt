@@ -1,5 +1,7 @@
 // The list entry for other languages: a list in, its answers into a lent buffer. The code is returned, and the number of bytes written goes
 // through a third reference. It promises what the run promises, and requires nothing.
+#![tactic(auto)]
+
 ghost use Rattle.std.specs.Prelude.{◌≡◌};
 ghost use Rattle.model.specs.Lists.{run};
 ghost use Rattle.model.specs.Limits.{cabinet};

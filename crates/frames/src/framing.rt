@@ -8,7 +8,7 @@ use super::numbers::read4;
 use super::reading::{Part, record_at};
 
 // "List refused (35)", or how many records it has and the start value of the register.
-#[derive(Drop)]
+#[derive(Clone, Copy)]
 pub enum Framing {
     Refused,
     Framed { records: usize, start: u32 },

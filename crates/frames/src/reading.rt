@@ -5,14 +5,14 @@ ghost use Rattle.frames.specs.Reading.{part_at};
 
 use super::numbers::read2;
 
-#[derive(Drop)]
+#[derive(Clone, Copy)]
 pub struct Reader<'a> {
     pub list: &'a [u8],
     pub at: usize,
 }
 
 // What stands at a place: a record, its bytes from start to next; the end; or what no record is.
-#[derive(Drop)]
+#[derive(Clone, Copy)]
 pub enum Part {
     Record { start: usize, next: usize },
     End,

@@ -6,7 +6,7 @@ use crate::{Cell, Setting, Task, Tasks};
 use base::sets::least;
 
 // Where a row stands, and what it holds.
-#[derive(Drop)]
+#[derive(Clone, Copy)]
 pub struct Found {
     pub at: usize,
     pub task: Task,

@@ -1,7 +1,7 @@
 // What each operation comes to: the requests after it, and the outcome.
 use crate::Requests;
 
-#[derive(Drop)]
+#[derive(Clone, Copy)]
 pub enum Define {
     Done,
     Invalid,
@@ -9,13 +9,13 @@ pub enum Define {
     NoSpace,
 }
 
-#[derive(Drop)]
+#[derive(Clone, Copy)]
 pub struct Defined {
     pub requests: Requests,
     pub outcome: Define,
 }
 
-#[derive(Drop)]
+#[derive(Clone, Copy)]
 pub enum Start {
     Done,
     Invalid,
@@ -26,27 +26,27 @@ pub enum Start {
     NoSpace,
 }
 
-#[derive(Drop)]
+#[derive(Clone, Copy)]
 pub struct Started {
     pub requests: Requests,
     pub outcome: Start,
 }
 
-#[derive(Drop)]
+#[derive(Clone, Copy)]
 pub enum Cancel {
     Done,
     Invalid,
     NotFound,
 }
 
-#[derive(Drop)]
+#[derive(Clone, Copy)]
 pub struct Cancelled {
     pub requests: Requests,
     pub outcome: Cancel,
 }
 
 // `passed` stood before it in the line; where nothing can start, that is the whole line.
-#[derive(Drop)]
+#[derive(Clone, Copy)]
 pub enum Dispatch {
     Started {
         name: u64,
@@ -57,13 +57,13 @@ pub enum Dispatch {
     Nothing(u32),
 }
 
-#[derive(Drop)]
+#[derive(Clone, Copy)]
 pub struct Dispatched {
     pub requests: Requests,
     pub outcome: Dispatch,
 }
 
-#[derive(Drop)]
+#[derive(Clone, Copy)]
 pub enum Retrieve {
     Given,
     Cut,
@@ -71,7 +71,7 @@ pub enum Retrieve {
 }
 
 // Of `full` bytes of data the first `len` are given, in the front of `bytes`.
-#[derive(Drop)]
+#[derive(Clone, Copy)]
 pub struct Retrieved {
     pub requests: Requests,
     pub outcome: Retrieve,

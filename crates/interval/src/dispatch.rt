@@ -12,7 +12,7 @@ use crate::{Phase, Requests, rows};
 use base::sets::least;
 
 // The programs and the terminals of the n active tasks.
-#[derive(Drop)]
+#[derive(Clone, Copy)]
 struct Busy {
     programs: [u32; 32],
     terminals: [u32; 32],

@@ -1,7 +1,8 @@
 // Interval control: programs, terminals, the tick register, and the requests in their phases.
+#![tactic(auto)]
 
 // "Each request is in one phase: waiting with its due tick, expired, or active (data taken or not)."
-#[derive(Drop)]
+#[derive(Clone, Copy)]
 pub enum Phase {
     Waiting(u32),
     Expired,
@@ -9,7 +10,7 @@ pub enum Phase {
 }
 
 // A request, and the first `len` of its bytes are its data.
-#[derive(Drop)]
+#[derive(Clone, Copy)]
 pub struct Request {
     pub name: u64,
     pub program: u32,
@@ -21,7 +22,7 @@ pub struct Request {
 
 // Rows 0..count are the requests: of those that wait the order is the order of acceptance, and of the expired it is the line.
 // Places past a count keep what they held and mean nothing.
-#[derive(Drop)]
+#[derive(Clone, Copy)]
 pub struct Requests {
     pub register: u32,
     pub pcount: usize,

@@ -10,14 +10,14 @@ use crate::{Phase, Request, Requests, rows};
 use base::sets::least;
 
 // What a row has in a column, and whether it has anything there.
-#[derive(Drop)]
+#[derive(Clone, Copy)]
 struct Key {
     on: bool,
     value: u64,
 }
 
 // The first n are the column.
-#[derive(Drop)]
+#[derive(Clone, Copy)]
 struct Column {
     list: [u64; 32],
     n: usize,

@@ -4,6 +4,8 @@
 // is no list, and is refused as no bytes are. The answer is written first; then what is left of a longer input is read and
 // dropped, so that whoever writes it down a pipe is not stopped by a broken one: no more than 64 MiB of it, so that an input
 // without end does not keep the program.
+#![tactic(auto)]
+
 use libc::{STDERR_FILENO, STDIN_FILENO, STDOUT_FILENO};
 use printed::form::form;
 

@@ -23,7 +23,7 @@ use monitor::lanes::{decides, for_requests, for_settings, for_store, judge, lane
 use monitor::settle::SYSTEM;
 
 // "The list entry returns 0, 35 or 36 and the number of bytes written."
-#[derive(Drop)]
+#[derive(Clone, Copy)]
 pub struct Ran {
     pub code: u32,
     pub written: usize,

@@ -5,7 +5,7 @@ ghost use Rattle.monitor.specs.Answers.{saying, answering};
 use base::bytes::lay;
 
 // "condition, action (0 go on, 1 go to label, 2 abend), 2-byte label (0 unless action 1), 4-byte number, 0..64 bytes"
-#[derive(Drop)]
+#[derive(Clone, Copy)]
 pub struct Answer {
     pub condition: u8,
     pub action: u8,
@@ -15,7 +15,7 @@ pub struct Answer {
     pub bytes: [u8; 64],
 }
 
-#[derive(Drop)]
+#[derive(Clone, Copy)]
 pub struct Said {
     pub condition: u8,
     pub number: u32,

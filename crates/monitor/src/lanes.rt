@@ -7,7 +7,7 @@ use crate::answers::{Said, plain};
 use crate::settle::SYSTEM;
 use handlers::Setting;
 
-#[derive(Drop)]
+#[derive(Clone, Copy)]
 pub enum Lane {
     Malformed,
     Stranger,
@@ -19,7 +19,7 @@ pub enum Lane {
 }
 
 // What the handlers come to: the action and its label, and whether the task is removed.
-#[derive(Drop)]
+#[derive(Clone, Copy)]
 pub struct Verdict {
     pub action: u8,
     pub label: u16,

@@ -1,9 +1,11 @@
 // The monitor: one record in, answer and tables out. Its tables are the three parts, and the bytes of the items beside them.
+#![tactic(auto)]
+
 use handlers::Tasks;
 use interval::Requests;
 use queues::Queues;
 
-#[derive(Drop)]
+#[derive(Clone, Copy)]
 pub struct Parts {
     pub requests: Requests,
     pub queues: Queues,
@@ -11,7 +13,7 @@ pub struct Parts {
 }
 
 // 64 bytes of the items belong to a slot. They lie beside the parts, so that a run lends them and copies none.
-#[derive(Drop)]
+#[derive(Clone, Copy)]
 pub struct Tables {
     pub parts: Parts,
     pub items: [u8; 8192],

@@ -7,7 +7,7 @@ use crate::answers::{Said, plain};
 use crate::{Parts, requests, settings, store};
 
 // The parts after the command, and what it says.
-#[derive(Drop)]
+#[derive(Clone, Copy)]
 pub struct Obeyed {
     pub parts: Parts,
     pub said: Said,

@@ -19,7 +19,7 @@ use interval::advance::Passing;
 use interval::answers::{Cancel, Define, Dispatch, Retrieve, Start};
 
 // The requests after the command, and what it says.
-#[derive(Drop)]
+#[derive(Clone, Copy)]
 pub struct Asked {
     pub requests: Requests,
     pub said: Said,

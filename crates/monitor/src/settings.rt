@@ -9,7 +9,7 @@ use handlers::Tasks;
 use handlers::answers::{Handled, Outcome};
 
 // The settings after the command, and what it says.
-#[derive(Drop)]
+#[derive(Clone, Copy)]
 pub struct Made {
     pub tasks: Tasks,
     pub said: Said,

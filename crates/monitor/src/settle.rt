@@ -12,7 +12,7 @@ use handlers::Setting;
 pub const SYSTEM: u64 = 0x2020202020202020;
 
 // The parts after the record, and its answer.
-#[derive(Drop)]
+#[derive(Clone, Copy)]
 pub struct Turned {
     pub parts: Parts,
     pub answer: Answer,

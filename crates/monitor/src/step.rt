@@ -10,7 +10,7 @@ use crate::settle::{SYSTEM, Turned, settle};
 use crate::sound::sound;
 use crate::{Parts, Tables};
 
-#[derive(Drop)]
+#[derive(Clone, Copy)]
 pub struct Stepped {
     pub tables: Tables,
     pub answer: Answer,

@@ -18,7 +18,7 @@ use queues::read::{Part, Reading};
 use queues::rewrite::Rewriting;
 
 // The queues after the command, and what it says.
-#[derive(Drop)]
+#[derive(Clone, Copy)]
 pub struct Stored {
     pub queues: Queues,
     pub said: Said,

@@ -1,5 +1,7 @@
 // Program and terminal names in lent words: how many there are, then the names. How many it can hold is how much is lent.
 // No function requires anything: each answers for every slice.
+#![tactic(auto)]
+
 ghost use Rattle.std.specs.Prelude.{◌≡◌, ◌&&◌, List, ℕ, ◌≤◌, length, take};
 ghost use Rattle.base.specs.Lists.{all, has};
 ghost use Rattle.base.specs.Bytes.{is_name};

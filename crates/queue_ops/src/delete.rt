@@ -64,7 +64,7 @@ fn sweep(queues: &mut [u64], l: Columns, name: u64) -> usize
     n - kept.count
 }
 
-#[derive(Drop)]
+#[derive(Clone, Copy)]
 struct Kept {
     used: Used, // what is in use
     count: usize, // how many entries stay

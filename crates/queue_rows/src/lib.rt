@@ -1,4 +1,6 @@
 // Queues in lent words: where each column lies, and the words of occupancy.
+#![tactic(auto)]
+
 ghost use Rattle.std.specs.Prelude.{◌≡◌, get_or};
 ghost use Rattle.queue_rows.specs.Layout.{Laid, Sized};
 
@@ -7,7 +9,7 @@ use slots::Used;
 use words::cells::word_at;
 
 // Where the columns begin, one behind the other, and how many rows and slots there are.
-#[derive(Drop)]
+#[derive(Clone, Copy)]
 pub struct Columns {
     pub names: usize,
     pub pointers: usize,

@@ -1,5 +1,7 @@
 // Whether the queues in lent words are sound: every rule of document 01 that speaks of queues and slots, for any words.
 // No function requires anything: each answers for every slice.
+#![tactic(auto)]
+
 mod entries;
 mod rows;
 

@@ -13,7 +13,7 @@ use super::place::BLANK;
 use base::sets::tally;
 use slots::Slot;
 
-#[derive(Drop)]
+#[derive(Clone, Copy)]
 pub enum Appending {
     Stored(u32), // at this place
     NoSpace,
@@ -21,13 +21,13 @@ pub enum Appending {
     Invalid,
 }
 
-#[derive(Drop)]
+#[derive(Clone, Copy)]
 pub struct Appended {
     pub queues: Queues,
     pub outcome: Appending,
 }
 
-#[derive(Drop)]
+#[derive(Clone, Copy)]
 enum Way {
     Row(usize), // of the name, or for it
     Fault(Appending),

@@ -11,14 +11,14 @@ use crate::place::BLANK;
 use base::bytes::wide;
 use base::sets::least;
 
-#[derive(Drop)]
+#[derive(Clone, Copy)]
 pub enum Deleting {
     Freed(u32),
     UnknownQueue,
     Invalid,
 }
 
-#[derive(Drop)]
+#[derive(Clone, Copy)]
 pub struct Deleted {
     pub queues: Queues,
     pub outcome: Deleting,

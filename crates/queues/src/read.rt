@@ -13,14 +13,14 @@ use base::bytes::wide;
 use base::sets::least;
 
 // The item lies at `at` in the lent bytes, is `full` bytes long, and `len` of them fit the room.
-#[derive(Drop)]
+#[derive(Clone, Copy)]
 pub struct Part {
     pub at: usize,
     pub full: usize,
     pub len: usize,
 }
 
-#[derive(Drop)]
+#[derive(Clone, Copy)]
 pub enum Reading {
     Given(Part),
     Cut(Part), // the room is shorter than the item
@@ -29,7 +29,7 @@ pub enum Reading {
     Invalid,
 }
 
-#[derive(Drop)]
+#[derive(Clone, Copy)]
 pub struct Read {
     pub queues: Queues,
     pub outcome: Reading,

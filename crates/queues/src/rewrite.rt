@@ -12,7 +12,7 @@ use super::find::find;
 use super::place::{BLANK, slot_at};
 use base::sets::least;
 
-#[derive(Drop)]
+#[derive(Clone, Copy)]
 pub enum Rewriting {
     Done,
     WrongLength,
@@ -21,7 +21,7 @@ pub enum Rewriting {
     Invalid,
 }
 
-#[derive(Drop)]
+#[derive(Clone, Copy)]
 pub struct Rewritten {
     pub queues: Queues,
     pub outcome: Rewriting,

@@ -1,6 +1,8 @@
 // What one record says: "command byte, 8-byte issuer, operands" (document 01, "The list and the answers"), and the columns of the table of commands that
 // need no table: the size of the operands, the kind of the issuer, and the part that obeys.
 // No function requires anything: each answers for every slice of bytes.
+#![tactic(auto)]
+
 ghost use Rattle.std.specs.Prelude.{◌≡◌, ◌-◌, ◌^◌, ◌<◌, min, length, drop};
 ghost use Rattle.base.specs.Bytes.{num};
 ghost use Rattle.model.specs.Commands.{command, issuer, fits, formed, wrong_kind, row_of};
@@ -93,7 +95,7 @@ pub fn issuer(rec: &[u8]) -> u64
 }
 
 // The sizes that operands may have.
-#[derive(Drop)]
+#[derive(Clone, Copy)]
 pub enum Extent {
     Exactly(usize),
     AtLeast(usize),
@@ -101,7 +103,7 @@ pub enum Extent {
 }
 
 // Who may send a command: "Sys" and "task" in its row, or anyone.
-#[derive(Drop)]
+#[derive(Clone, Copy)]
 pub enum Kind {
     Anyone,
     System,
@@ -109,7 +111,7 @@ pub enum Kind {
 }
 
 // The part that obeys a command. A task that finishes leaves two of them.
-#[derive(Drop)]
+#[derive(Clone, Copy)]
 pub enum Part {
     Interval,
     Finish,
@@ -117,7 +119,7 @@ pub enum Part {
     Settings,
 }
 
-#[derive(Drop)]
+#[derive(Clone, Copy)]
 pub struct Row(pub Extent, pub Kind, pub Part);
 
 // The table of commands, by their numbers. A command "not 1..17" has operands that never fit.

@@ -44,7 +44,7 @@ fn clashes(requests: &[u64], program: u32, terminal: u32) -> bool
 }
 
 // The row that starts, or how many requests there are; and how many of the line stand before it.
-#[derive(Drop)]
+#[derive(Clone, Copy)]
 struct Choice {
     at: usize,
     passed: usize,

@@ -66,7 +66,7 @@ fn refused(
 }
 
 // Where a name stands, and the slots of the rows before it.
-#[derive(Drop)]
+#[derive(Clone, Copy)]
 struct Pass {
     at: usize,
     used: Used,

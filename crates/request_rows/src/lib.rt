@@ -1,5 +1,7 @@
 // Requests in lent words: the register, how many there are, then rows of four words. A request is what the code speaks of: one function reads a row,
 // one stores it.
+#![tactic(auto)]
+
 ghost use Rattle.std.specs.Prelude.{◌≡◌, ◌+◌, ◌≤◌, length, get_or, set};
 ghost use Rattle.request_rows.specs.Rows.{row, is_expired, is_active, not_taken, phase_of, phase_word, decode, encode, in_phase, no_row};
 ghost use Rattle.request_rows.specs.Table.{view_of, register_of, live, with_row};
@@ -7,7 +9,7 @@ ghost use Rattle.request_rows.specs.Table.{view_of, register_of, live, with_row}
 use words::cells::word_at;
 
 // "Each request is in one phase: waiting with its due tick, expired, or active (data taken or not)."
-#[derive(Drop)]
+#[derive(Clone, Copy)]
 pub enum Phase {
     Waiting(u32),
     Expired,
@@ -15,7 +17,7 @@ pub enum Phase {
 }
 
 // Its data are the first `len` bytes of slot `slot`.
-#[derive(Drop)]
+#[derive(Clone, Copy)]
 pub struct Request {
     pub name: u64,
     pub program: u32,
@@ -26,7 +28,7 @@ pub struct Request {
 }
 
 // The row of an active task.
-#[derive(Drop)]
+#[derive(Clone, Copy)]
 pub enum Task {
     At(usize),
     Nobody,

@@ -11,7 +11,7 @@ use base::names::NONE;
 use request_rows::{Request, active, count, request_at};
 
 // What a row has in a column, and whether it has anything there.
-#[derive(Drop)]
+#[derive(Clone, Copy)]
 struct Key {
     on: bool,
     value: u64,

@@ -1,4 +1,6 @@
 // Whether programs, terminals, requests and the bytes of their data are sound: every rule of document 01 that speaks of them.
+#![tactic(auto)]
+
 ghost use Rattle.std.specs.Prelude.{◌≡◌, ◌&&◌, length, ◌==◌, nat_le};
 ghost use Rattle.base.specs.Lists.{all};
 ghost use Rattle.names.specs.Names as names;

@@ -12,7 +12,7 @@ use frames::reading::{Part, part_at};
 use turns::turn::turn;
 
 // "The list entry returns 0, 35 or 36 and the number of bytes written."
-#[derive(Drop)]
+#[derive(Clone, Copy)]
 pub struct Ran {
     pub code: u32,
     pub written: usize,

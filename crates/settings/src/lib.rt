@@ -1,10 +1,12 @@
 // Condition handling: the settings of the tasks in lent words: how many tasks have settings, then rows of twelve words, a task's name and a word for
 // each of its settings. It knows a task by its name alone.
+#![tactic(auto)]
+
 ghost use Rattle.std.specs.Prelude.{◌≡◌};
 ghost use Rattle.settings.specs.Rows.{read_setting, setting_word};
 
 // "unset, ignore, or a label 1..65535"
-#[derive(Drop)]
+#[derive(Clone, Copy)]
 pub enum Setting {
     Unset,
     Ignore,

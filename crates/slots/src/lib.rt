@@ -1,17 +1,19 @@
 // The occupancy of the 128 slots: two 64-bit words. An item takes the lowest free slot.
 // No function that a caller can name requires anything: each answers for every pair of words and every slot number.
+#![tactic(auto)]
+
 ghost use Rattle.std.specs.Prelude.{◌≡◌, ℕ, ◌<◌, ◌≤◌};
 ghost use Rattle.slots.specs.Bits.{bit, with_bit, lowest_clear, number, held, none, free_for, used_at, put, marked, cleared};
 ghost use Rattle.slots.specs.Told.{Found, Alone};
 
 // Slot k is bit k of lo, and slot 64 + k is bit k of hi; a set bit is a slot in use.
-#[derive(Drop)]
+#[derive(Clone, Copy)]
 pub struct Used {
     pub lo: u64,
     pub hi: u64,
 }
 
-#[derive(Drop)]
+#[derive(Clone, Copy)]
 pub enum Slot {
     At(usize),
     Full,

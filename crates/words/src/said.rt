@@ -3,7 +3,7 @@ ghost use Rattle.std.specs.Prelude.{◌≡◌};
 ghost use Rattle.words.specs.Said.{code_of, saying};
 
 // "Conditions: 0 normal, 1 no space, 2 unknown queue, .."
-#[derive(Drop)]
+#[derive(Clone, Copy)]
 pub enum Condition {
     Normal,
     NoSpace,
@@ -18,7 +18,7 @@ pub enum Condition {
     InvalidRequest,
 }
 
-#[derive(Drop)]
+#[derive(Clone, Copy)]
 pub struct Said {
     pub condition: Condition,
     pub number: u32,

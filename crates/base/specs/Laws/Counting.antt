@@ -152,7 +152,8 @@ module _ {A : Type 0} (f : A → ℕ) where
       by_test (p x) (λ t. rw (t, eqb_same (f x)))
       (λ t.
       let h' : any p l ≡ true = rw t at h in
-      rw t
+      let e : first p d (x ∷ l) ≡ first p d l = rw t in
+      subst (λ (y : A). first (λ (z : A). eqb (f z) (f y)) d (x ∷ l) ≡ y) (sym e)
       (by_test (eqb (f x) (f (first p d l)))
       (λ u.
       let there : has (f (first p d l)) (map f l) ≡ true =
