@@ -2,7 +2,7 @@
 use Rattle.std.specs.Prelude.{ℕ, suc, zero, ◌<◌, ◌≤◌, ◌≡◌, false, not, List}
 use Rattle.std.proofs.Common.{arith, ◌∙◌, ⊎_elim}
 use Rattle.std.proofs.Math.Path.{refl, ap, sym, subst}
-use Rattle.std.proofs.Math.Bool.{true, and_false}
+use Rattle.std.proofs.Math.Bool.{true, and-false}
 use Rattle.std.proofs.Math.ListN.{length}
 use borrow.Author.Tests.{lt-leb, not-false, eq-eqb}
 use Rattle.base.specs.Bytes.{is_bytes}
@@ -34,7 +34,7 @@ module _ (L : Limits) (s : State) (a : List ℕ) where
   not_full e c = no (sym e ∙ (space L s a).only c)
 
   roomy_items : length s.queues < L.queues → items_in s.queues < L.slots → command a ≡ 10 → full L s a ≡ false
-  roomy_items q i e = rw e (rw (lt-leb L.queues (length s.queues) q, lt-leb L.slots (items_in s.queues) i, and_false (not (known_queue s.queues (operand 0 8 a)))))
+  roomy_items q i e = rw e (rw (lt-leb L.queues (length s.queues) q, lt-leb L.slots (items_in s.queues) i, and-false (not (known_queue s.queues (operand 0 8 a)))))
 
   roomy_requests : length s.interval.requests < L.requests → command a ≡ 6 → full L s a ≡ false
   roomy_requests h e = rw e (lt-leb L.requests (length s.interval.requests) h)

@@ -1,0 +1,37 @@
+-- `reading::record_at` meets its contract: each way out is a case of `whole` of what is left of the list.
+-- Assumes nothing.
+use mathlib.Core.Path.{◌≡◌, ap, sym, ◌∙◌}
+use Prim.Native.Nat.{ℕ, ◌+◌}
+use native.Mathlib.Omega.{arith}
+use Rattle.base.specs.Bytes.{num}
+use Rattle.frames.specs.Laws.Records.{Whole, whole_is, whole_not}
+use Rattle.frames.specs.Laws.Reading.{part_end, part_bad, part_record}
+use Rattle.frames.specs.declared.reading.Part.TheVariants.{Record}
+use Rattle.frames.proofs.reading.record_at.Goals as goal
+
+pub returns-then-list-at : goal.returns-then-list-at
+returns-then-list-at c = c.before.before in record { exact = sym (part_end s.args.list.now s.args.at c.if-list-at.true) }
+
+pub returns-then-list-at-lt2 : goal.returns-then-list-at-lt2
+returns-then-list-at-lt2 c = c.before.before.before in
+    let l = s.args.list.now in
+    let at = s.args.at in record { exact = sym (part_bad l at (omega arith) (whole_not l at (λ w. omega arith))) }
+
+pub returns-then-n-lt9 : goal.returns-then-n-lt9
+returns-then-n-lt9 c = c.before.before.before.before.before in
+    let l = s.args.list.now in
+    let at = s.args.at in
+    let e = c.read2-n.ensures.0 in record { exact = sym (part_bad l at (omega arith) (whole_not l at (λ w. omega arith))) }
+
+pub returns-then-list-at-2 : goal.returns-then-list-at-2
+returns-then-list-at-2 c = c.before.before.before.before.before.before in
+    let l = s.args.list.now in
+    let at = s.args.at in
+    let e = c.read2-n.ensures.0 in record { exact = sym (part_bad l at (omega arith) (whole_not l at (λ w. omega arith))) }
+
+pub returns : goal.returns
+returns c = c.before.before.before.before.before.before in
+    let l = s.args.list.now in
+    let at = s.args.at in
+    let e : c.read2-n.result ≡ num at 2 l = c.read2-n.ensures.0 in
+    let w : Whole l at = record { two = omega arith; nine = omega arith; within = omega arith } in record { exact = sym (part_record l at (omega arith) (whole_is l at w) ∙ ap (λ (k : ℕ). Record (at + 2) (at + 2 + k)) (sym e)) }

@@ -1,0 +1,48 @@
+-- `dispatch::dispatch` meets its contract: the rows passed cannot start, and the count is how many of them are in the line. Assumes nothing.
+use Rattle.std.proofs.Common.{◌-◌, ◌<◌, get_or, sym, refl, ap, ◌∙◌, ⊎_elim, arith, rules}
+use Rattle.interval.specs.declared.Requests.{Requests}
+use Rattle.interval.specs.Rows.{out_row}
+use Rattle.interval.specs.Dispatch.{dispatch_in}
+use Rattle.interval.specs.Laws.Typed.{unmapped}
+use Rattle.interval.specs.Laws.Dispatch.{dispatch_both, dispatch_hit, dispatch_none}
+use Rattle.interval.proofs.Picks.{free_is, passes_held, passes_other, picks, picks_none}
+use Rattle.interval.proofs.dispatch.dispatch.Goals as goal
+
+pub loop-i-init : goal.loop-i-init
+loop-i-init c = (
+  refl,
+  c.busy_in-b.ensures,
+  record {
+    sought = record { here = omega arith; most = c.least-m.ensures.exact; long = search (rules, unmapped); first = omega arith };
+    line = refl;
+    few = omega arith;
+  },
+)
+
+pub returns-then-free : goal.returns-then-free
+returns-then-free c =
+    let l = c.loop-i in
+    let t : Requests = l.t in
+    let free = sym (c.free.ensures ∙ free_is t c.busy_in-b.result l.invariant.1 (get_or t.rows l.i out_row)) ∙ c.if-free.true in
+    let picked = picks t _ l.i l.passed l.invariant.2 (omega arith) (sym c.expired.ensures ∙ c.if-expired.true) free in let all = dispatch_both c.args.t _ (dispatch_hit t l.i l.passed (sym picked) _ c.in_phase.ensures ∙ ap dispatch_in l.invariant.0) in record { exact = all.0; model = all.1 }
+
+pub loop-i-preserved : goal.loop-i-preserved
+loop-i-preserved c =
+    let l = c.loop-i in
+    let t : Requests = l.t in
+    let low : l.i < c.least-m.result = omega arith in (
+      l.invariant.0,
+      l.invariant.1,
+      ⊎_elim
+          (λ w.
+          let free = sym (w.6.ensures ∙ free_is t c.busy_in-b.result l.invariant.1 (get_or t.rows l.i out_row)) ∙ w.7.left in
+          passes_held t _ l.i l.passed l.invariant.2 low _ (sym c.expired.ensures ∙ w.0.taken) free w.8)
+          (λ w. passes_other t _ l.i l.passed l.invariant.2 low _ (sym c.expired.ensures ∙ w.0.left) w.1)
+          c.if-expired.branch,
+    )
+
+pub returns : goal.returns
+returns c =
+    let l = c.loop-i in
+    let t : Requests = l.t in let all = dispatch_both c.args.t _
+    (dispatch_none t l.passed (sym (picks_none t _ l.i l.passed l.invariant.2 (omega arith))) ∙ ap dispatch_in l.invariant.0) in record { exact = all.0; model = all.1 }

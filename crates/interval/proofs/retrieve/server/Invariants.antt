@@ -1,0 +1,10 @@
+use Rattle.std.proofs.Common.{◌-◌}
+use Rattle.interval.specs.Retrieve.{serves}
+use Rattle.interval.proofs.Seeks.{Sought}
+use Rattle.interval.proofs.retrieve.server.Given as goal
+
+abbrev pub invariant-loop-i : goal.invariant-loop-i
+invariant-loop-i l = Sought (serves l.program l.terminal) l.t l.m l.i
+
+abbrev pub decreases-loop-i : goal.decreases-loop-i
+decreases-loop-i l = l.m - l.i

@@ -1,0 +1,21 @@
+use Prim.Native.Nat.{◌-◌}
+use lib.ListN.{length}
+use Rattle.interval.specs.Active.{task}
+use Rattle.interval.proofs.Seeks.{Sought}
+use Rattle.monitor.specs.Laws.Held.{parts}
+use Rattle.monitor.specs.Table.{tables}
+use Rattle.lists.proofs.Running.{Running}
+use Rattle.lists.proofs.run.run_records.Given as goal
+
+abbrev pub invariant-loop-start : goal.invariant-loop-start
+invariant-loop-start l =
+    Running l.list l.initial.out (tables (parts l.initial.requests l.initial.queues l.initial.tasks) l.initial.items) l.out (tables (parts l.requests l.queues l.tasks) l.items) l.at l.written
+
+abbrev pub decreases-loop-start : goal.decreases-loop-start
+decreases-loop-start l = length l.list - l.at
+
+abbrev pub invariant-loop-i : goal.invariant-loop-i
+invariant-loop-i l = Sought (task l.issuer) l.requests l.m l.i
+
+abbrev pub decreases-loop-i : goal.decreases-loop-i
+decreases-loop-i l = l.m - l.i

@@ -1,0 +1,10 @@
+-- `lines::refusal` meets its contract. Assumes nothing.
+use mathlib.Core.Path.{◌∙◌}
+use Rattle.print.specs.Lines.{refusal_line}
+use Rattle.print.specs.Laws.Text.{puts_laid, laid_within}
+use Rattle.print.proofs.lines.refusal.Goals as goal
+
+pub returns : goal.returns
+returns c = c.before.before in
+    let a = k.args in
+    let e = k.put-line.ensures ∙ puts_laid refusal_line a.out.now in record { within = laid_within _ _ refusal_line a.out.now k.put-line.auto.0 e; exact = e }

@@ -1,0 +1,45 @@
+-- `queue_ops::append::with_row` meets its contract. Assumes nothing.
+use mathlib.Core.Path.{◌≡◌, sym, ap₂, ◌∙◌}
+use mathlib.Core.List.{List}
+use Prim.Native.Nat.{ℕ}
+use native.Mathlib.Omega.{arith}
+use lib.ListN.{take, length-set}
+use Rattle.base.specs.Lists.{has}
+use Rattle.queue_rows.specs.Table.{names_of}
+use Rattle.queue_rows.specs.Layout.{seen}
+use Rattle.queue_rows.specs.Laws.Columns.{names_lies}
+use Rattle.queue_ops.proofs.AppendCases.{grows, row_had, row_refused, row_made}
+use Rattle.queue_ops.proofs.append.with_row.Goals as goal
+
+-- whether the name has a row
+known : (c : goal.After-has) → let a = c.args in c.has.result ≡ has a.name (names_of (seen a.l a.queues.now))
+known c =
+    let a = c.args in
+    c.has.ensures.exact
+    ∙ ap₂ (λ (n : ℕ) (r : List ℕ). has a.name (take n r)) c.word_at-count.ensures.exact
+    ((names_lies a.l a.queues.now c.pre).whole a.l.pointers c.pre.pointers)
+
+pub returns-then-has : goal.returns-then-has
+returns-then-has c =
+    let a = c.args in
+    row_had (seen a.l a.queues.now) a.name (sym (known c.before) ∙ c.if-has.true)
+
+pub returns-then-count-l : goal.returns-then-count-l
+returns-then-count-l c =
+    let a = c.args in
+    row_refused (seen a.l a.queues.now) a.name (sym (known c.before.before.before) ∙ c.if-has.false)
+    (omega (arith, (names_lies a.l a.queues.now c.pre).long, c.word_at-count.ensures.exact, c.if-count-l.true))
+
+pub bounds-queues-pointers : goal.bounds-queues-pointers
+bounds-queues-pointers c = simp length-set (omega arith)
+
+pub bounds-queues-0 : goal.bounds-queues-0
+bounds-queues-0 c = simp length-set (omega arith)
+
+pub returns : goal.returns
+returns c =
+    let a = c.args in
+    let n = c.word_at-count in
+    row_made (seen a.l a.queues.now) a.name (sym (known c.before.before.before) ∙ c.if-has.false) _
+    (omega (arith, (names_lies a.l a.queues.now c.pre).long, n.ensures, c.if-count-l.false))
+    (grows a.l a.queues.now c.pre n.result a.name n.ensures c.if-count-l.false)

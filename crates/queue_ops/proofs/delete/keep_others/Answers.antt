@@ -1,0 +1,66 @@
+-- `queue_ops::delete::keep_others` meets its contract: i entries are swept, and j of them stay. Assumes nothing.
+use mathlib.Core.Path.{◌≡◌, refl, sym, ap, ◌∙◌}
+use mathlib.Core.List.{List}
+use Prim.Native.Nat.{ℕ, ◌<◌, ◌+◌, ◌-◌}
+use native.Mathlib.Omega.{arith}
+use lib.ListN.{length, take, drop, take-append-drop, length-take, length-drop, length-set}
+use Rattle.queue_ops.proofs.SweepLaws.{swept_none, turn_hit, turn_miss, swept_as}
+use Rattle.queue_ops.proofs.delete.keep_others.Goals as goal
+use Rattle.queue_ops.proofs.delete.keep_others.Goals.{else-o-name, then-o-name}
+
+-- the two columns
+front_long : (l : List ℕ) (s : ℕ) → length l ≡ s + s → length (take s l) ≡ s
+front_long l s e = simp length-take (omega arith)
+
+back_long : (l : List ℕ) (s : ℕ) → length l ≡ s + s → length (drop s l) ≡ s
+back_long l s e = simp length-drop (omega arith)
+
+pub loop-i-init : goal.loop-i-init
+loop-i-init c =
+    let a = c.args in
+    let l = a.entries.now in (
+      omega arith,
+      c.requires.1,
+      c.requires.0,
+      c.requires.0,
+      omega arith,
+      swept_as refl refl (sym (take-append-drop a.slots l))
+          (swept_none a.name (take a.slots l) (drop a.slots l) a.u a.slots (front_long l a.slots c.requires.0) (back_long l a.slots c.requires.0)),
+    )
+
+pub bounds-entries-slots-else-o-name : goal.bounds-entries-slots-else-o-name
+bounds-entries-slots-else-o-name c = simp length-set (omega arith)
+
+pub loop-i-preserved : goal.loop-i-preserved
+loop-i-preserved c =
+    let l = c.loop-i in
+    let a = c.args in
+    let b = l.invariant in
+    let t = a.entries.now in
+    let h : l.i < a.slots = omega arith in
+    let x = front_long t a.slots b.2 in
+    let y = back_long t a.slots b.2 in
+    let os : List ℕ = take a.slots t in
+    let ss : List ℕ = drop a.slots t in
+    elim c.if-o-name.branch [ then-o-name w ↦ (
+      omega arith,
+      b.1,
+      b.2,
+      ap length w.2 ∙ b.3,
+      omega (arith, w.4),
+      swept_as (w.3 ∙ w.1.ensures.0) w.4 w.2 (turn_hit a.name os ss a.u a.slots x y l.i h l.v l.j l.entries b.5 w.if-o-name.true),
+    ) | else-o-name w ↦ (
+      omega arith,
+      b.1,
+      b.2,
+      ap length w.1 ∙ simp length-set b.3,
+      omega (arith, w.3),
+      swept_as w.2 w.3 w.1 (turn_miss a.name os ss a.u a.slots x y l.i h l.v l.j l.entries b.5 w.if-o-name.false),
+    ) ]
+
+pub returns : goal.returns
+returns c =
+    let l = c.loop-i in
+    let a = c.args in
+    let n : l.i ≡ a.n = omega arith in
+    rw n at l.invariant.5

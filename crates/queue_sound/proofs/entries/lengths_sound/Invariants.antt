@@ -1,0 +1,13 @@
+use mathlib.Core.Path.{◌≡◌}
+use Prim.Native.Nat.{◌≤◌, ◌-◌, min}
+use lib.ListN.{length, take, drop}
+use Rattle.base.specs.Lists.{all}
+use Rattle.queue_sound.specs.Parts.{filled}
+use Rattle.queue_sound.proofs.entries.lengths_sound.Given as goal
+
+abbrev pub invariant-loop-i : goal.invariant-loop-i
+invariant-loop-i l =
+    (l.i ≤ l.m) × (l.m ≡ min l.n (length l.slot)) × (all (filled l.len) (drop l.i (take l.n l.slot)) ≡ all (filled l.len) (take l.n l.slot))
+
+abbrev pub decreases-loop-i : goal.decreases-loop-i
+decreases-loop-i l = l.m - l.i

@@ -1,0 +1,54 @@
+-- `queue_sound::entries::slots_sound` meets its contract: what is left of the slots drains what is left of the bits exactly if all of them drain all.
+-- Assumes nothing.
+use mathlib.Core.Path.{◌≡◌, refl, sym, ap, ◌∙◌, subst}
+use Prim.Native.Nat.{◌<◌, ◌+◌, ◌-◌}
+use native.Mathlib.Omega.{arith}
+use borrow.Author.Rules.{rules}
+use borrow.Author.Tests.{not-true, not-false, lt-leb}
+use lib.ListN.{length, take, drop, get_or}
+use Rattle.slots.specs.declared.Used.{Used}
+use Rattle.slots.specs.Bits.{cleared}
+use Rattle.slots.specs.Told.{Typed}
+use Rattle.slots.specs.Laws.Slots.{cleared_typed}
+use Rattle.queue_sound.proofs.Drains.{drains, drained, drain_hit, drain_miss, drain_end}
+use Rattle.queue_sound.proofs.entries.slots_sound.Goals as goal
+
+pub returns-then-n-slot : goal.returns-then-n-slot
+returns-then-n-slot c =
+    let a = c.args in
+    let h : length a.slot.now < a.n = omega arith in
+    rw (lt-leb _ _ h)
+
+pub loop-i-init : goal.loop-i-init
+loop-i-init c =
+    let y : Typed c.args.u = record { low = search rules; high = search rules } in
+    (omega arith, omega arith, y, y, refl)
+
+pub returns-then-not-is_used : goal.returns-then-not-is_used
+returns-then-not-is_used c =
+    let l = c.loop-i in
+    let a = c.args in
+    sym (drain_miss a.slot.now a.n l.i l.v (omega arith) (omega arith) (sym c.is_used.ensures.exact ∙ not-true _ c.if-not-is_used.true-raw))
+    ∙ l.invariant.4 ∙ drained a.u l.invariant.2 a.n a.slot.now l.invariant.1
+
+pub loop-i-preserved : goal.loop-i-preserved
+loop-i-preserved c =
+    let l = c.loop-i in
+    let a = c.args in
+    let s = get_or a.slot.now l.i 0 in
+    let e : c.clear-v.result ≡ cleared l.v s = c.clear-v.ensures.exact in (
+      omega arith,
+      l.invariant.1,
+      l.invariant.2,
+      subst Typed (sym e) (cleared_typed l.v l.invariant.3 s),
+      ap (λ (x : Used). drains x (drop (l.i + 1) (take a.n a.slot.now))) e
+          ∙ drain_hit a.slot.now a.n l.i l.v (omega arith) (omega arith)
+          (sym c.is_used.ensures.exact ∙ not-false _ c.if-not-is_used.false-raw)
+          ∙ l.invariant.4,
+    )
+
+pub returns : goal.returns
+returns c =
+    let l = c.loop-i in
+    let a = c.args in
+    sym (drain_end a.slot.now a.n l.i l.v (omega arith)) ∙ l.invariant.4 ∙ drained a.u l.invariant.2 a.n a.slot.now l.invariant.1

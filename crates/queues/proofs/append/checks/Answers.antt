@@ -1,0 +1,30 @@
+-- `checks` meets its contract: at each return, by the tests that lead there. Assumes nothing.
+use mathlib.Core.Logic.{⊎_elim}
+use lib.ListN.{take}
+use Rattle.queues.proofs.AppendCases.{way_invalid, way_short, way_long, way_full, way_free}
+use Rattle.queues.proofs.append.checks.Goals as goal
+
+pub returns-then-name-eq-BLANK : goal.returns-then-name-eq-BLANK
+returns-then-name-eq-BLANK c =
+    let a = c.args in
+    way_invalid a.name a.n (take a.count a.names.now) c.if-name-eq-BLANK.true
+
+pub returns-then-n-lt1 : goal.returns-then-n-lt1
+returns-then-n-lt1 c =
+    let a = c.args in
+    let ns = take a.count a.names.now in
+    ⊎_elim (λ w. way_short a.name a.n ns c.if-name-eq-BLANK.false w.taken)
+    (λ w. way_long a.name a.n ns c.if-name-eq-BLANK.false w.0.left w.1.taken)
+    c.then-n-lt1.branch
+
+pub returns-then-row-ge16 : goal.returns-then-row-ge16
+returns-then-row-ge16 c =
+    let a = c.args in
+    way_full a.name a.n (take a.count a.names.now) c.if-name-eq-BLANK.false c.if-n-lt1.false c.if-n-gt64.false-raw
+    c.find-row.result c.find-row.ensures c.if-row-ge16.true
+
+pub returns : goal.returns
+returns c =
+    let a = c.args in
+    way_free a.name a.n (take a.count a.names.now) c.if-name-eq-BLANK.false c.if-n-lt1.false c.if-n-gt64.false-raw
+    c.find-row.result c.find-row.ensures c.if-row-ge16.false

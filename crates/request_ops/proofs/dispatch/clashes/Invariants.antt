@@ -1,0 +1,10 @@
+use Rattle.std.proofs.Common.{◌-◌}
+use Rattle.request_rows.specs.Laws.View.{Seeks}
+use Rattle.request_rows.specs.Dispatch.{clash}
+use Rattle.request_ops.proofs.dispatch.clashes.Given as goal
+
+abbrev pub invariant-loop-i : goal.invariant-loop-i
+invariant-loop-i l = Seeks (clash l.program l.terminal) l.requests l.m l.i
+
+abbrev pub decreases-loop-i : goal.decreases-loop-i
+decreases-loop-i l = l.m - l.i
