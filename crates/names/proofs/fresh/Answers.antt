@@ -12,4 +12,4 @@ none [] = refl
 none (x ∷ w) = refl
 
 pub returns : goal.returns
-returns c = c.args in record { exact = ap view_of c.clear.ensures.exact ∙ none a.t.now }
+returns c = let a = c.args in record { exact = ap view_of c.clear.ensures.exact ∙ none a.t.now }

@@ -7,10 +7,10 @@ use Rattle.records.specs.Laws.{read_more, read_below, read_all}
 use Rattle.records.proofs.number_at.Goals as goal
 
 pub overflow_mul-a : goal.overflow_mul-a
-overflow_mul-a c = read_below c.loop-i.invariant.1 (omega arith) in search rules
+overflow_mul-a c = let b = read_below c.loop-i.invariant.1 (omega arith) in search rules
 
 pub overflow_add-a : goal.overflow_add-a
-overflow_add-a c = read_below c.loop-i.invariant.1 (omega arith) in search rules
+overflow_add-a c = let b = read_below c.loop-i.invariant.1 (omega arith) in search rules
 
 pub loop-i-preserved : goal.loop-i-preserved
 loop-i-preserved c =

@@ -5,4 +5,4 @@ use Rattle.records.specs.Laws.{shut_row_lem}
 use Rattle.records.proofs.wrong_kind.Goals as goal
 
 pub returns : goal.returns
-returns c = c.before in record { exact = c.shut_to.ensures.exact ∙ shut_row_lem _ _ row.row-of.ensures row.args.issuer }
+returns c = record { exact = c.shut_to.ensures.exact ∙ shut_row_lem _ _ c.row_of-row.ensures.exact c.args.issuer }

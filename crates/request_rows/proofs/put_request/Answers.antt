@@ -23,4 +23,4 @@ returns-then-i-rows c =
     ∙ ap (λ (x : ℕ). with_row (view_of a.t.now) a.i (row a.q.name (a.q.program * 4294967296 + a.q.terminal) x (a.q.len + a.q.slot * 256))) c.phase_word.ensures.exact }
 
 pub returns-else-i-rows : goal.returns-else-i-rows
-returns-else-i-rows c = c.args in record { exact = sym (view_out a.t.now a.i (encode a.q) (omega arith)) }
+returns-else-i-rows c = let a = c.args in record { exact = sym (view_out a.t.now a.i (encode a.q) (omega arith)) }

@@ -20,10 +20,10 @@ pub returns-then-list-gt4096 : goal.returns-then-list-gt4096
 returns-then-list-gt4096 c = sym (headed_not c.args.list.now (λ h. omega arith))
 
 pub returns-then-n-list : goal.returns-then-n-list
-returns-then-n-list c = c.read4-n.ensures.0 in let t = c.if-n-list.true in sym (headed_not c.args.list.now (λ h. omega arith))
+returns-then-n-list c = let e = c.read4-n.ensures.0 in let t = c.if-n-list.true in sym (headed_not c.args.list.now (λ h. omega arith))
 
 pub returns : goal.returns
-returns c = c.args.list.now in
+returns c = let l = c.args.list.now in
     let e = c.read4-n.ensures.0 in
     let t = c.if-n-list.false in
     let f : num 0 4 l + 4 ≡ length l = omega arith in

@@ -31,7 +31,7 @@ loop-next-smaller c =
     omega arith
 
 pub loop-next-preserved : goal.loop-next-preserved
-loop-next-preserved c = c.before.before.before.before in passed_more _ _ _ _ a.loop.invariant _ _ (said c.before)
+loop-next-preserved c = passed_more _ _ _ _ c.loop-next.invariant _ _ (said c.before)
 
 pub returns-in-End : goal.returns-in-End
 returns-in-End c =

@@ -5,6 +5,5 @@ use Rattle.frames.specs.Laws.Numbers.{num_two}
 use Rattle.frames.proofs.numbers.read2.Goals as goal
 
 pub returns : goal.returns
-returns c = c.before.before.before.before.before in
-    let e = num_two s.args.at s.args.list.now (omega arith) in
+returns c = let e = num_two c.args.at c.args.list.now (omega arith) in
     ((omega arith), (omega arith))

@@ -5,6 +5,5 @@ use Rattle.frames.specs.Laws.Numbers.{num_four}
 use Rattle.frames.proofs.numbers.read4.Goals as goal
 
 pub returns : goal.returns
-returns c = c.before.before.before.before.before.before.before.before.before in
-    let e = num_four s.args.at s.args.list.now (omega arith) in
+returns c = let e = num_four c.args.at c.args.list.now (omega arith) in
     ((omega arith), (omega arith))

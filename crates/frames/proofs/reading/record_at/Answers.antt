@@ -10,28 +10,24 @@ use Rattle.frames.specs.declared.reading.Part.TheVariants.{Record}
 use Rattle.frames.proofs.reading.record_at.Goals as goal
 
 pub returns-then-list-at : goal.returns-then-list-at
-returns-then-list-at c = c.before.before in record { exact = sym (part_end s.args.list.now s.args.at c.if-list-at.true) }
+returns-then-list-at c = record { exact = sym (part_end c.args.list.now c.args.at c.if-list-at.true) }
 
 pub returns-then-list-at-lt2 : goal.returns-then-list-at-lt2
-returns-then-list-at-lt2 c = c.before.before.before in
-    let l = s.args.list.now in
-    let at = s.args.at in record { exact = sym (part_bad l at (omega arith) (whole_not l at (λ w. omega arith))) }
+returns-then-list-at-lt2 c = let l = c.args.list.now in
+    let at = c.args.at in record { exact = sym (part_bad l at (omega arith) (whole_not l at (λ w. omega arith))) }
 
 pub returns-then-n-lt9 : goal.returns-then-n-lt9
-returns-then-n-lt9 c = c.before.before.before.before.before in
-    let l = s.args.list.now in
-    let at = s.args.at in
+returns-then-n-lt9 c = let l = c.args.list.now in
+    let at = c.args.at in
     let e = c.read2-n.ensures.0 in record { exact = sym (part_bad l at (omega arith) (whole_not l at (λ w. omega arith))) }
 
 pub returns-then-list-at-2 : goal.returns-then-list-at-2
-returns-then-list-at-2 c = c.before.before.before.before.before.before in
-    let l = s.args.list.now in
-    let at = s.args.at in
+returns-then-list-at-2 c = let l = c.args.list.now in
+    let at = c.args.at in
     let e = c.read2-n.ensures.0 in record { exact = sym (part_bad l at (omega arith) (whole_not l at (λ w. omega arith))) }
 
 pub returns : goal.returns
-returns c = c.before.before.before.before.before.before in
-    let l = s.args.list.now in
-    let at = s.args.at in
+returns c = let l = c.args.list.now in
+    let at = c.args.at in
     let e : c.read2-n.result ≡ num at 2 l = c.read2-n.ensures.0 in
     let w : Whole l at = record { two = omega arith; nine = omega arith; within = omega arith } in record { exact = sym (part_record l at (omega arith) (whole_is l at w) ∙ ap (λ (k : ℕ). Record (at + 2) (at + 2 + k)) (sym e)) }

@@ -12,8 +12,7 @@ pub loop-i-init : goal.loop-i-init
 loop-i-init c = (paste-zero c.args.out.now c.args.at c.args.bytes.now, (omega arith), refl)
 
 pub loop-i-preserved : goal.loop-i-preserved
-loop-i-preserved c = c.before.before in
-    ((rw (b.loop.invariant.0, add-one, ← paste-suc b.args.out.now b.args.at b.args.bytes.now b.loop.i 0 (omega arith) (omega arith)) refl), (omega arith), (simp length-set b.loop.invariant.2))
+loop-i-preserved c = ((rw (c.loop-i.invariant.0, add-one, ← paste-suc c.args.out.now c.args.at c.args.bytes.now c.loop-i.i 0 (omega arith) (omega arith)) refl), (omega arith), (simp length-set c.loop-i.invariant.2))
 
 pub returns : goal.returns
-returns c = c.before in let e : b.loop.i ≡ b.args.n = omega arith in rw (b.loop.invariant.0, e) refl
+returns c = let e : c.loop-i.i ≡ c.args.n = omega arith in rw (c.loop-i.invariant.0, e) refl

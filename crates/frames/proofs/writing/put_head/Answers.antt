@@ -38,4 +38,4 @@ pub bounds-out-9 : goal.bounds-out-9
 bounds-out-9 c = simp length-set (omega arith)
 
 pub returns : goal.returns
-returns c = c.args in record { exact = put_ten a.condition a.action a.label a.number a.n a.out.now c.if-out-lt10.false }
+returns c = let a = c.args in record { exact = put_ten a.condition a.action a.label a.number a.n a.out.now c.if-out-lt10.false }

@@ -9,13 +9,13 @@ use Rattle.frames.proofs.Puts.{put_all}
 use Rattle.frames.proofs.writing.write_answer.Goals as goal
 
 pub returns-then-out-n : goal.returns-then-out-n
-returns-then-out-n c = c.args in
+returns-then-out-n c = let a = c.args in
     let n = c.carried-n.ensures.0 in
     let e = answer_of a.condition a.action a.label a.number a.bytes.now a.len in
     let k = length_encoded e in record { exact = sym (written_not (encoded e) a.out.now (omega arith)) }
 
 pub returns : goal.returns
-returns c = c.args in
+returns c = let a = c.args in
     let h = c.put_head in
     let n = c.carried-n.ensures.0 in record { exact = put_all a.condition a.action a.label a.number a.bytes.now a.len a.out.now h.new.0 c.put_bytes.new.out
     c.carried-n.result n (omega arith) h.ensures c.put_bytes.ensures }

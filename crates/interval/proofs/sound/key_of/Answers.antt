@@ -3,7 +3,7 @@ use Rattle.interval.proofs.SoundLaws.{key_name, key_program, key_terminal}
 use Rattle.interval.proofs.sound.key_of.Goals as goal
 
 pub returns-then-which-eq0 : goal.returns-then-which-eq0
-returns-then-which-eq0 c = c.args in key_name a.which a.q c.if-which-eq0.true
+returns-then-which-eq0 c = let a = c.args in key_name a.which a.q c.if-which-eq0.true
 
 pub returns-then-which-eq1 : goal.returns-then-which-eq1
 returns-then-which-eq1 c =

@@ -191,7 +191,7 @@ loop-start-init c =
     (fresh_typed c.args.register h p e) (fresh_well c.args.register h p e)
 
 pub slice_bounds-rec-count : goal.slice_bounds-rec-count
-slice_bounds-rec-count c = ahead c.before in omega arith
+slice_bounds-rec-count c = let a = ahead c.before in omega arith
 
 pub loop-i-init : goal.loop-i-init
 loop-i-init c = record { here = omega arith; most = c.least-m.ensures.exact; long = c.loop-start.invariant.typed.requests.rows; = omega arith }
@@ -203,7 +203,7 @@ loop-i-preserved c =
     (sym c.is_task.ensures.exact ∙ c.if-is_task.false)
 
 pub slice_bounds-write-count : goal.slice_bounds-write-count
-slice_bounds-write-count c = c.loop-start.invariant in let n = running_long R in let m = R.room in omega arith
+slice_bounds-write-count c = let R = c.loop-start.invariant in let n = running_long R in let m = R.room in omega arith
 
 pub overflow_add-written : goal.overflow_add-written
 overflow_add-written c =

@@ -23,19 +23,19 @@ part : (c : goal.Else-n-eq0
 part c = printed_part _ _ _ _ _ _ c.loop-end.invariant _ c.answer_at-n.ensures c.if-n-eq0.false
 
 pub overflow_add-next : goal.overflow_add-next
-overflow_add-next c = part c in omega arith
+overflow_add-next c = let h = part c in omega arith
 
 pub slice_bounds-put_line-count : goal.slice_bounds-put_line-count
 slice_bounds-put_line-count c = omega arith
 
 pub put_line-end-requires : goal.put_line-end-requires
-put_line-end-requires c = c.before.before in printed_bytes _ _ _ _ _ _ k.loop.invariant _ k.answer_at.ensures k.if1.false
+put_line-end-requires c = printed_bytes _ _ _ _ _ _ c.loop-end.invariant _ c.answer_at-n.ensures c.if-n-eq0.false
 
 pub overflow_add-place : goal.overflow_add-place
-overflow_add-place c = c.before.before.before.before.before in let h = part k in let f = k.loop.invariant.few in omega arith
+overflow_add-place c = let h = part c.before.before.before.before.before in let f = c.loop-end.invariant.few in omega arith
 
 pub loop-end-smaller : goal.loop-end-smaller
-loop-end-smaller c = part c.before.before.before.before.before in omega arith
+loop-end-smaller c = let h = part c.before.before.before.before.before in omega arith
 
 pub loop-end-preserved : goal.loop-end-preserved
 loop-end-preserved c =

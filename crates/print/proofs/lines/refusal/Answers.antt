@@ -5,6 +5,5 @@ use Rattle.print.specs.Laws.Text.{puts_laid, laid_within}
 use Rattle.print.proofs.lines.refusal.Goals as goal
 
 pub returns : goal.returns
-returns c = c.before.before in
-    let a = k.args in
-    let e = k.put-line.ensures ∙ puts_laid refusal_line a.out.now in record { within = laid_within _ _ refusal_line a.out.now k.put-line.auto.0 e; exact = e }
+returns c = let a = c.args in
+    let e = c.put_line.ensures ∙ puts_laid refusal_line a.out.now in record { within = laid_within _ _ refusal_line a.out.now c.put_line.auto.0 e; exact = e }

@@ -10,10 +10,10 @@ use Rattle.print.proofs.Counted.{byte_more, byte_room}
 use Rattle.print.proofs.numbers.number.Goals as goal
 
 pub overflow_mul-x : goal.overflow_mul-x
-overflow_mul-x c = c.before in let h = byte_room b.loop.x b.loop.i (omega arith) b.loop.invariant.1 in omega arith
+overflow_mul-x c = let h = byte_room c.loop-i.x c.loop-i.i (omega arith) c.loop-i.invariant.1 in omega arith
 
 pub overflow_add-x : goal.overflow_add-x
-overflow_add-x c = c.before.before.before in let h = byte_room b.loop.x b.loop.i (omega arith) b.loop.invariant.1 in omega arith
+overflow_add-x c = let h = byte_room c.loop-i.x c.loop-i.i (omega arith) c.loop-i.invariant.1 in omega arith
 
 pub loop-i-preserved : goal.loop-i-preserved
 loop-i-preserved c =

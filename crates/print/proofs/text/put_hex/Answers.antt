@@ -9,7 +9,7 @@ use Rattle.print.specs.Laws.Text.{hex_next, drop_end}
 use Rattle.print.proofs.text.put_hex.Goals as goal
 
 pub loop-i-preserved : goal.loop-i-preserved
-loop-i-preserved c = c.before.before.before.before.before.before in (hex_next _ b.loop.i _ _ (omega arith) c.put_pair-end.ensures ∙ b.loop.invariant.0, (omega arith), (omega arith))
+loop-i-preserved c = (hex_next _ c.loop-i.i _ _ (omega arith) c.put_pair-end.ensures ∙ c.loop-i.invariant.0, (omega arith), (omega arith))
 
 pub returns : goal.returns
-returns c = c.before in sym (ap (λ (l : List ℕ). puts (written b.loop.end b.loop.out) (hex_of l)) (drop_end _ b.loop.i (omega arith))) ∙ b.loop.invariant.0
+returns c = sym (ap (λ (l : List ℕ). puts (written c.loop-i.end c.loop-i.out) (hex_of l)) (drop_end _ c.loop-i.i (omega arith))) ∙ c.loop-i.invariant.0

@@ -45,7 +45,7 @@ returns-then-s-l c =
           a.body.now; short = rw c.plain-then-s-l.ensures.exact (omega arith) }
 
 pub overflow_add-queues : goal.overflow_add-queues
-overflow_add-queues c = here c.before.before.before in omega (arith, h.place)
+overflow_add-queues c = let h = here c.before.before.before in omega (arith, h.place)
 
 pub overflow_add-at : goal.overflow_add-at
 overflow_add-at c = omega (arith, piece-ends c.before)

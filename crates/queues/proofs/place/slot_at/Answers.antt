@@ -18,7 +18,7 @@ slots s =
     slots_of a.name (take (held a.u) a.owner.now) (take (held a.u) a.slot.now)
 
 pub returns-then-place-eq0 : goal.returns-then-place-eq0
-returns-then-place-eq0 c = c.args in record { exact = at_zero a.len.now (slots c.before.before.before.before) a.place 0 c.if-place-eq0.true }
+returns-then-place-eq0 c = let a = c.args in record { exact = at_zero a.len.now (slots c.before.before.before.before) a.place 0 c.if-place-eq0.true }
 
 pub nth-s-requires : goal.nth-s-requires
 nth-s-requires c =

@@ -8,7 +8,7 @@ use Rattle.request_rows.specs.Rows.{no_row}
 use Rattle.request_ops.proofs.dispatch.clashes.Goals as goal
 
 pub loop-i-init : goal.loop-i-init
-loop-i-init c = c.args in live_sought a.requests.now (clash a.program a.terminal) _ c.count-m.ensures.exact
+loop-i-init c = let a = c.args in live_sought a.requests.now (clash a.program a.terminal) _ c.count-m.ensures.exact
 
 pub returns-then-blocks : goal.returns-then-blocks
 returns-then-blocks c =

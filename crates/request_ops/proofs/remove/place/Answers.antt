@@ -7,10 +7,10 @@ use Rattle.request_rows.specs.Laws.View.{rows_in_lem, live_count, live_words, na
 use Rattle.request_ops.proofs.remove.place.Goals as goal
 
 pub overflow_mul-count : goal.overflow_mul-count
-overflow_mul-count c = c.args.requests.now in omega (arith, rows_in_lem w, live_count w)
+overflow_mul-count c = let w = c.args.requests.now in omega (arith, rows_in_lem w, live_count w)
 
 pub overflow_add-head : goal.overflow_add-head
-overflow_add-head c = c.args.requests.now in omega (arith, rows_in_lem w, live_count w)
+overflow_add-head c = let w = c.args.requests.now in omega (arith, rows_in_lem w, live_count w)
 
 pub returns : goal.returns
 returns c =

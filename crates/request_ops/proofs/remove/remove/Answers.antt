@@ -6,4 +6,4 @@ use Rattle.request_ops.proofs.remove.remove.Goals as goal
 
 pub returns : goal.returns
 unfolding remove_in
-returns c = c.before.before.before.before in record { exact = c.remove_at.ensures.exact ∙ ap (remove_at (view_of i.args.requests.now)) i.place.ensures }
+returns c = record { exact = c.remove_at.ensures.exact ∙ ap (remove_at (view_of c.args.requests.now)) c.place-i.ensures }

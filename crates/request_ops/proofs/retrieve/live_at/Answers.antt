@@ -7,7 +7,7 @@ use Rattle.request_rows.specs.Rows.{no_row, decode}
 use Rattle.request_ops.proofs.retrieve.live_at.Goals as goal
 
 pub returns-then-i-count : goal.returns-then-i-count
-returns-then-i-count c = c.args in c.request_at.ensures.exact ∙ ap decode (live_at a.requests.now a.i (omega arith))
+returns-then-i-count c = let a = c.args in c.request_at.ensures.exact ∙ ap decode (live_at a.requests.now a.i (omega arith))
 
 pub returns : goal.returns
 returns c =

@@ -30,7 +30,7 @@ returns-then-s-m c =
     let a = c.args in let all = said_plain _ _ 0 _ _ c.plain.ensures.exact (accept_taken (view_of a.requests.now) a.area.now (asks c.before.before.before.before.before.before.before.before) _ _ c.scan-s.ensures (omega arith)) in record { exact = all.0; short = all.1 }
 
 pub overflow_cast-q : goal.overflow_cast-q
-overflow_cast-q c = roomy c.before.before.before c.if-has_room.true in record { fits = omega arith }
+overflow_cast-q c = let g = roomy c.before.before.before c.if-has_room.true in record { fits = omega arith }
 
 pub overflow_add-requests : goal.overflow_add-requests
 overflow_add-requests c =
@@ -46,7 +46,7 @@ bounds-requests-1 c =
     omega arith
 
 pub overflow_mul-k : goal.overflow_mul-k
-overflow_mul-k c = roomy c.before.before.before.before.before.before.before.before c.if-has_room.true in record { fits = omega arith }
+overflow_mul-k c = let g = roomy c.before.before.before.before.before.before.before.before c.if-has_room.true in record { fits = omega arith }
 
 pub returns-then-has_room : goal.returns-then-has_room
 returns-then-has_room c =

@@ -4,7 +4,7 @@ use Rattle.request_ops.specs.Laws.Start.{passing_start, passing_hit, passing_on,
 use Rattle.request_ops.proofs.start.scan.Goals as goal
 
 pub loop-i-init : goal.loop-i-init
-loop-i-init c = c.args in passing_start a.requests.now a.name _ c.count-m.ensures.exact _ c.none-used.ensures.exact
+loop-i-init c = let a = c.args in passing_start a.requests.now a.name _ c.count-m.ensures.exact _ c.none-used.ensures.exact
 
 pub returns-then-q-name : goal.returns-then-q-name
 returns-then-q-name c =
@@ -20,4 +20,4 @@ loop-i-preserved c =
     _ c.wide.ensures.exact _ c.mark-used.ensures.exact
 
 pub returns : goal.returns
-returns c = c.args in passing_end a.requests.now a.name _ c.loop-i.i _ c.loop-i.invariant c.loop-i-test.false
+returns c = let a = c.args in passing_end a.requests.now a.name _ c.loop-i.i _ c.loop-i.invariant c.loop-i-test.false

@@ -7,7 +7,7 @@ use Rattle.request_ops.proofs.tasks.task_at.Goals as goal
 use Rattle.request_ops.proofs.tasks.task_at.Goals.{else-q-name, then-q-name}
 
 pub loop-i-init : goal.loop-i-init
-loop-i-init c = c.args in live_sought a.requests.now (task a.name) _ c.count-m.ensures.exact
+loop-i-init c = let a = c.args in live_sought a.requests.now (task a.name) _ c.count-m.ensures.exact
 
 pub returns-then-active : goal.returns-then-active
 returns-then-active c =
@@ -22,4 +22,4 @@ loop-i-preserved c =
     elim c.if-q-name.branch [ then-q-name t ↦ task_idle a.requests.now a.name _ c.loop-i.i c.loop-i.invariant h q.result q.ensures _ t.1.ensures t.2.left | else-q-name t ↦ task_other a.requests.now a.name _ c.loop-i.i c.loop-i.invariant h q.result q.ensures t.left ]
 
 pub returns : goal.returns
-returns c = c.args in record { exact = task_none a.requests.now a.name _ c.loop-i.i c.loop-i.invariant c.loop-i-test.false }
+returns c = let a = c.args in record { exact = task_none a.requests.now a.name _ c.loop-i.i c.loop-i.invariant c.loop-i-test.false }

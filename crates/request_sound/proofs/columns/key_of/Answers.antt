@@ -3,10 +3,10 @@ use Rattle.request_sound.specs.Laws.Keys.{key_name, key_slot, key_program, key_t
 use Rattle.request_sound.proofs.columns.key_of.Goals as goal
 
 pub returns-then-which-eq0 : goal.returns-then-which-eq0
-returns-then-which-eq0 c = c.args in key_name a.which a.q c.if-which-eq0.true
+returns-then-which-eq0 c = let a = c.args in key_name a.which a.q c.if-which-eq0.true
 
 pub returns-then-which-eq1 : goal.returns-then-which-eq1
-returns-then-which-eq1 c = c.args in key_slot a.which a.q c.if-which-eq0.false c.if-which-eq1.true
+returns-then-which-eq1 c = let a = c.args in key_slot a.which a.q c.if-which-eq0.false c.if-which-eq1.true
 
 pub returns-then-which-eq2 : goal.returns-then-which-eq2
 returns-then-which-eq2 c =

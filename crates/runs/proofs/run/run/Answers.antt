@@ -52,10 +52,10 @@ loop-start-init c =
     looping_none c.args.list.now c.args.out.now _ c.requires
 
 pub slice_bounds-turn-count : goal.slice_bounds-turn-count
-slice_bounds-turn-count c = ahead c.before.before.before.before.before.before.before.before in omega arith
+slice_bounds-turn-count c = let a = ahead c.before.before.before.before.before.before.before.before in omega arith
 
 pub slice_bounds-turn-count-in-Record : goal.slice_bounds-turn-count-in-Record
-slice_bounds-turn-count-in-Record c = fits c.before.before.before.before.before.before.before.before.before in omega arith
+slice_bounds-turn-count-in-Record c = let f = fits c.before.before.before.before.before.before.before.before.before in omega arith
 
 pub overflow_add-written : goal.overflow_add-written
 overflow_add-written c =
@@ -64,7 +64,7 @@ overflow_add-written c =
     omega arith
 
 pub loop-start-smaller : goal.loop-start-smaller
-loop-start-smaller c = ahead c.before.before.before.before.before.before.before.before.before.before.before.before.before.before.before.before.before.before.before.before.before.before.before.before.before.before.before in omega arith
+loop-start-smaller c = let a = ahead c.before.before.before.before.before.before.before.before.before.before.before.before.before.before.before.before.before.before.before.before.before.before.before.before.before.before.before in omega arith
 
 pub loop-start-preserved : goal.loop-start-preserved
 loop-start-preserved c =
