@@ -10,5 +10,7 @@ use Rattle.names.proofs.known.Goals as goal
 -- src/lib.rt:39:1
 pub returns : goal.returns
 returns c =
-    let a = c.args in record { exact = c.has.ensures.exact
-    ∙ ap₂ (λ (n : ℕ) (l : List ℕ). has a.name (take n l)) c.word_at.ensures.exact (behind_first a.t.now _ c.least-first.ensures.exact) }
+    let a = c.args in record {
+      exact = c.has.ensures.exact
+          ∙ ap₂ (λ (n : ℕ) (l : List ℕ). has a.name (take n l)) c.word_at.ensures.exact (behind_first a.t.now _ c.least-first.ensures.exact);
+    }

@@ -7,5 +7,7 @@ use Rattle.names.proofs.sound.Goals as goal
 -- src/lib.rt:111:1
 pub returns : goal.returns
 returns c =
-    let a = c.args in record { exact = c.every.ensures
-    ∙ tested a.t.now _ _ _ _ _ c.word_at-n.ensures.exact c.least-first.ensures.exact (ap (leb _) c.places.ensures) c.once-once.ensures.exact c.all_names-named.ensures }
+    let a = c.args in record {
+      exact = c.every.ensures
+          ∙ tested a.t.now _ _ _ _ _ c.word_at-n.ensures.exact c.least-first.ensures.exact (ap (leb _) c.places.ensures) c.once-once.ensures.exact c.all_names-named.ensures;
+    }

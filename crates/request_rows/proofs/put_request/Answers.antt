@@ -19,8 +19,10 @@ put_row-requires c = omega (arith, rows_in_lem c.args.t.now)
 pub returns-then-i-rows : goal.returns-then-i-rows
 returns-then-i-rows c =
     let a = c.args in
-    let q = row a.q.name (a.q.program * 4294967296 + a.q.terminal) c.phase_word.result (a.q.len + a.q.slot * 256) in record { exact = ap view_of c.put_row.ensures ∙ view_put a.t.now a.i q (omega arith)
-    ∙ ap (λ (x : ℕ). with_row (view_of a.t.now) a.i (row a.q.name (a.q.program * 4294967296 + a.q.terminal) x (a.q.len + a.q.slot * 256))) c.phase_word.ensures.exact }
+    let q = row a.q.name (a.q.program * 4294967296 + a.q.terminal) c.phase_word.result (a.q.len + a.q.slot * 256) in record {
+      exact = ap view_of c.put_row.ensures ∙ view_put a.t.now a.i q (omega arith)
+          ∙ ap (λ (x : ℕ). with_row (view_of a.t.now) a.i (row a.q.name (a.q.program * 4294967296 + a.q.terminal) x (a.q.len + a.q.slot * 256))) c.phase_word.ensures.exact;
+    }
 
 pub returns-else-i-rows : goal.returns-else-i-rows
 returns-else-i-rows c = let a = c.args in record { exact = sym (view_out a.t.now a.i (encode a.q) (omega arith)) }

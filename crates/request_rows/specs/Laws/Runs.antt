@@ -1,7 +1,7 @@
 -- The operations one after the other, any number of them, come to what they come to in the model, whose clock never wraps: from sound memory, at any
 -- clock that its register can mean (`ran`), and so from fresh memory of any sizes at any register value (`runs_fresh`). Assumes nothing.
 use Rattle.std.specs.Prelude.{ℕ, ◌%◌, ◌^◌, ◌≡◌, refl, true, List, [], ◌∷◌, length}
-use Rattle.std.proofs.Common.{ap, ◌∙◌, arith, ltb-true}
+use Rattle.std.proofs.Common.{ap, ap₂, ◌∙◌, arith, ltb-true}
 use Rattle.base.specs.Lists.{all}
 use Rattle.base.specs.Laws.Tests.{by_test, and_l, and_r, both}
 use Rattle.model.specs.Limits.{Limits}
@@ -10,7 +10,7 @@ use Rattle.model.specs.Interval as model
 use Rattle.request_rows.specs.declared.Task.{Task}
 use Rattle.request_rows.specs.declared.Task.TheVariants.{At, Nobody}
 use Rattle.request_rows.specs.Active.{task_in}
-use Rattle.request_rows.specs.Runs.{Ask, Program, Terminal, Advance, AskTicks, Dispatch, Start, Cancel, Retrieve, Remove, in_range, retrieved, turn, obeyed, model_turn, outcomes, left, model_outcomes, model_left}
+use Rattle.request_rows.specs.Runs.{Ask, Program, Terminal, Advance, AskTicks, Dispatch, Start, Cancel, Retrieve, Remove, in_range, retrieved, turn, obeyed, model_turn, Heard, heard, outcomes, left, model_outcomes, model_left}
 use Rattle.request_rows.specs.Stands.{Memory, limits_of, interval_at, Fine}
 use Rattle.request_rows.specs.Typed.{Typed, TypedAsked, SameSizes, Keeps}
 use Rattle.request_rows.specs.Laws.Active.{nobody_stands}
@@ -95,8 +95,9 @@ ran (a ∷ l) c m y f h =
     let same = same_limits d.keeps.sizes in
     record {
       clock = r.clock;
-      hears = rw (← d.outcome, ← same, r.hears);
-      stands = rw (← d.outcome, ← same, r.stands);
+      hears = ap (λ (t : List Heard). heard (turn m a) ∷ t) r.hears
+          ∙ ap₂ (λ (L : Limits) (o : Outcome model.Interval). heard o ∷ model_outcomes L o.state l) same d.outcome;
+      stands = r.stands ∙ ap₂ (λ (L : Limits) (o : Outcome model.Interval). model_left L o.state l) same d.outcome;
       fine = r.fine;
       typed = r.typed;
       limits = r.limits ∙ same;
