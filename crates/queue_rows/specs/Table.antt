@@ -1,6 +1,6 @@
 -- The queues in words: how many there are, the two words of occupancy, then the columns, one behind the other: names and pointers, as many as queues
 -- can be; owner, slot and len, as many as items can be. What stands past a count is kept and means nothing.
-use Rattle.std.specs.Prelude.{ℕ, ◌+◌, ◌-◌, ◌*◌, ◌/◌, min, List, [], ◌∷◌, ◌++◌, eqb, length, take, drop, get_or}
+use Rattle.std.specs.Prelude.{ℕ, ◌+◌, ◌-◌, ◌*◌, ◌/◌, min, List, [], ◌∷◌, eqb, length, take, drop, get_or}
 use Rattle.base.specs.Choice.{pick}
 use Rattle.base.specs.Lists.{first_at}
 use Rattle.slots.specs.Bits.{held}

@@ -34,9 +34,12 @@ returns c =
     let m = c.least.result in
     let s = c.least-slots.result in
     let f = c.least.ensures.exact in
-    let g = c.least-slots.ensures.exact in record { laid = search rules; sized = record {
+    let g = c.least-slots.ensures.exact in record {
+      laid = search rules;
+      sized = record {
         rows = all-rows a.words a.bytes n c.least-names.ensures.exact m s f g;
         slots = all_slots a.words a.bytes n c.least-names.ensures.exact m s f g;
         few = at_most a.words a.bytes n c.least-names.ensures.exact m s f g;
         lent = all-lent a.words a.bytes n c.least-names.ensures.exact m s f g;
-      } }
+      };
+    }

@@ -34,14 +34,17 @@ returns-then-with_row c =
     let q = seen l a.queues.now in
     let p = seen l c.with_row.new.queues in
     let same : length c.into_slot.new.queues ≡ length a.queues.now = search rules in
-    let bytes : length c.into_slot.new.items ≡ length a.items.now = search rules in record { exact = λ b.
+    let bytes : length c.into_slot.new.items ≡ length a.items.now = search rules in record {
+      exact = λ b.
           through l a.queues.now c.into_slot.new.queues (length a.items.now) (length c.into_slot.new.items) (λ (x : Queues). store x c.into_slot.new.items)
           (λ (x : Queues). append_to x a.items.now a.may a.name a.item.now) c.into_slot.result b b c.layout-l.ensures.sized same bytes
           (c.into_slot.ensures.exact b
           ∙ ap (λ (k : ℕ). handed (in_slot p a.items.now a.name a.item.now (free_for (min a.may k) p.used)) b) (sym (slot_lies l a.queues.now c.layout-l.ensures.laid).long)
           ∙ ap (λ (x : Outcome Store). handed x b)
           (append_slot q a.items.now a.may a.name a.item.now c.if-name-eq-BLANK.false (sym c.wrong_length.ensures ∙ c.if-wrong_length.false) p
-          c.with_row.result c.with_row.ensures c.if-with_row.true)); short = c.into_slot.ensures.short }
+          c.with_row.result c.with_row.ensures c.if-with_row.true));
+      short = c.into_slot.ensures.short;
+    }
 
 pub returns : goal.returns
 returns c =

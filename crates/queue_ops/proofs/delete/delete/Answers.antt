@@ -15,9 +15,10 @@ use Rattle.queue_ops.proofs.Answers.{plain_said, plain_seen}
 use Rattle.queue_ops.proofs.Seeks.{copies_le}
 use Rattle.queue_ops.proofs.DeleteCases.{delete_blank, delete_unknown, delete_done}
 use Rattle.queue_ops.proofs.delete.delete.Goals as goal
+use Rattle.queue_ops.proofs.delete.delete.Goals.{After-sweep-freed, Else-row-l}
 
 -- the row is one of those that are counted
-counted : (c : goal.Else-row-l) →
+counted : (c : Else-row-l) →
     let q = seen c.layout-l.result c.args.queues.now in
     c.row_of-row.result < min q.count c.layout-l.result.rows
 counted c =
@@ -33,7 +34,7 @@ counted c =
     )
 
 -- no more are freed than there are slots
-few : (c : goal.After-sweep-freed) → c.sweep-freed.result ≤ c.layout-l.result.slots
+few : (c : After-sweep-freed) → c.sweep-freed.result ≤ c.layout-l.result.slots
 few c =
     let l = c.layout-l.result in
     let p = seen l c.shut_row.new.queues in
@@ -63,11 +64,11 @@ returns-then-row-l c =
 
 pub shut_row-requires : goal.shut_row-requires
 shut_row-requires c =
-    (c.layout-l.ensures.laid, counted c.before)
+    (c.layout-l.ensures.laid, counted (goal.at.shut_row-requires c).Else-row-l)
 
 pub overflow_cast-freed : goal.overflow_cast-freed
 overflow_cast-freed c =
-    omega (arith, few c.before.before, c.layout-l.ensures.sized.few)
+    omega (arith, few (goal.at.overflow_cast-freed c).After-sweep-freed, c.layout-l.ensures.sized.few)
 
 pub returns : goal.returns
 returns c =

@@ -1,7 +1,7 @@
 -- `queue_ops::delete::keep_others` meets its contract: i entries are swept, and j of them stay. Assumes nothing.
 use mathlib.Core.Path.{◌≡◌, refl, sym, ap, ◌∙◌}
 use mathlib.Core.List.{List}
-use Prim.Native.Nat.{ℕ, ◌<◌, ◌+◌, ◌-◌}
+use Prim.Native.Nat.{ℕ, ◌<◌, ◌+◌}
 use native.Mathlib.Omega.{arith}
 use lib.ListN.{length, take, drop, take-append-drop, length-take, length-drop, length-set}
 use Rattle.queue_ops.proofs.SweepLaws.{swept_none, turn_hit, turn_miss, swept_as}
@@ -42,21 +42,24 @@ loop-i-preserved c =
     let y = back_long t a.slots b.2 in
     let os : List ℕ = take a.slots t in
     let ss : List ℕ = drop a.slots t in
-    elim c.if-o-name.branch [ then-o-name w ↦ (
-      omega arith,
-      b.1,
-      b.2,
-      ap length w.2 ∙ b.3,
-      omega (arith, w.4),
-      swept_as (w.3 ∙ w.1.ensures.0) w.4 w.2 (turn_hit a.name os ss a.u a.slots x y l.i h l.v l.j l.entries b.5 w.if-o-name.true),
-    ) | else-o-name w ↦ (
-      omega arith,
-      b.1,
-      b.2,
-      ap length w.1 ∙ simp length-set b.3,
-      omega (arith, w.3),
-      swept_as w.2 w.3 w.1 (turn_miss a.name os ss a.u a.slots x y l.i h l.v l.j l.entries b.5 w.if-o-name.false),
-    ) ]
+    elim c.if-o-name.branch [
+      | then-o-name w ↦ (
+        omega arith,
+        b.1,
+        b.2,
+        ap length w.entries-is ∙ b.3,
+        omega (arith, w.j-is),
+        swept_as (w.v-is ∙ w.clear-v.ensures.exact) w.j-is w.entries-is (turn_hit a.name os ss a.u a.slots x y l.i h l.v l.j l.entries b.5 w.if-o-name.true),
+      )
+      | else-o-name w ↦ (
+        omega arith,
+        b.1,
+        b.2,
+        ap length w.entries-is ∙ simp length-set b.3,
+        omega (arith, w.j-is),
+        swept_as w.v-is w.j-is w.entries-is (turn_miss a.name os ss a.u a.slots x y l.i h l.v l.j l.entries b.5 w.if-o-name.false),
+      )
+    ]
 
 pub returns : goal.returns
 returns c =

@@ -1,7 +1,7 @@
 -- `queue_ops::fresh::fresh` meets its contract: the first i words are 0. Assumes nothing.
 use mathlib.Core.Path.{◌≡◌, refl, ap, ◌∙◌}
 use mathlib.Core.List.{List}
-use Prim.Native.Nat.{ℕ, ◌-◌}
+use Prim.Native.Nat.{ℕ}
 use native.Mathlib.Omega.{arith}
 use lib.ListN.{length, set, length-set}
 use Rattle.queue_rows.specs.Table.{view_of}
@@ -25,5 +25,7 @@ returns c =
     let l = c.loop-i in
     let a = c.args in
     let q = a.queues.now in
-    let n : l.i ≡ length q = omega arith in record { exact = ap (λ (r : List ℕ). view_of r (length a.items.now)) (l.invariant.2 ∙ zeros_all q l.i (omega arith) ∙ ap zeros n)
-    ∙ view_zeros q (length a.items.now) }
+    let n : l.i ≡ length q = omega arith in record {
+      exact = ap (λ (r : List ℕ). view_of r (length a.items.now)) (l.invariant.2 ∙ zeros_all q l.i (omega arith) ∙ ap zeros n)
+          ∙ view_zeros q (length a.items.now);
+    }

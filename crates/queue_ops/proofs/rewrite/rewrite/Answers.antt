@@ -16,17 +16,18 @@ use Rattle.queue_ops.proofs.Answers.{plain_said, plain_seen}
 use Rattle.queue_ops.proofs.ReadCases.{slot_before}
 use Rattle.queue_ops.proofs.RewriteCases.{rewrite_blank, rewrite_length, rewrite_unknown, missing, rewritten}
 use Rattle.queue_ops.proofs.rewrite.rewrite.Goals as goal
+use Rattle.queue_ops.proofs.rewrite.rewrite.Goals.{After-layout-l, After-slot_behind-s, Else-s-l, Start}
 
 -- the words are as many as memory holds
-held : (s : goal.Start) → length s.args.queues.now * 8 < 2 ^ 63
+held : (s : Start) → length s.args.queues.now * 8 < 2 ^ 63
 held s = search rules
 
 -- the item's length is right
-right : (c : goal.After-layout-l) → let n = length c.args.item.now in (not (leb 1 n) || ltb 64 n) ≡ false
+right : (c : After-layout-l) → let n = length c.args.item.now in (not (leb 1 n) || ltb 64 n) ≡ false
 right c = sym c.wrong_length.ensures ∙ c.if-wrong_length.false
 
 -- the slot of the item
-there : (c : goal.After-slot_behind-s) →
+there : (c : After-slot_behind-s) →
     let a = c.args in
     c.slot_behind-s.result ≡ slot_in (seen c.layout-l.result a.queues.now) a.name a.place
 there c =
@@ -35,7 +36,7 @@ there c =
     ∙ slot_before c.layout-l.result a.queues.now c.layout-l.ensures.laid a.name a.place c.others_before.result c.others_before.ensures
 
 -- the word of its length lies in the words
-inside : (c : goal.Else-s-l) →
+inside : (c : Else-s-l) →
     c.layout-l.result.len + c.slot_behind-s.result < length c.args.queues.now
 inside c = omega (arith, c.layout-l.ensures.laid.inside, c.if-s-l.false)
 
@@ -58,7 +59,7 @@ returns-then-row_of-l c =
     let q = seen l a.queues.now in let all = plain_seen l a.queues.now a.queues.now (length a.items.now) (length a.items.now) (λ (x : Queues). store x a.items.now)
     (λ (x : Queues). rewrite_in x a.items.now a.name a.place a.item.now) c.plain-then-row_of-l.result UnknownQueue 0
     c.layout-l.ensures.sized refl refl c.plain-then-row_of-l.ensures.exact
-    (rewrite_unknown q a.items.now a.name a.place a.item.now c.if-name-eq-BLANK.false (right c.before.before.before.before) (c.row_of.ensures.unknown c.if-row_of-l.true)) in record { exact = all.0; short = all.1 }
+    (rewrite_unknown q a.items.now a.name a.place a.item.now c.if-name-eq-BLANK.false (right (goal.at.returns-then-row_of-l c).After-layout-l) (c.row_of.ensures.unknown c.if-row_of-l.true)) in record { exact = all.0; short = all.1 }
 
 pub returns-then-s-l : goal.returns-then-s-l
 returns-then-s-l c =
@@ -67,14 +68,14 @@ returns-then-s-l c =
     let q = seen l a.queues.now in let all = plain_seen l a.queues.now a.queues.now (length a.items.now) (length a.items.now) (λ (x : Queues). store x a.items.now)
     (λ (x : Queues). rewrite_in x a.items.now a.name a.place a.item.now) c.plain-then-s-l.result NoSuchItem 0
     c.layout-l.ensures.sized refl refl c.plain-then-s-l.ensures.exact
-    (missing l a.queues.now a.items.now c.layout-l.ensures.laid a.name a.place a.item.now c.if-name-eq-BLANK.false (right c.before.before.before.before.before.before.before.before)
-    (c.row_of.ensures.known c.if-row_of-l.false) c.slot_behind-s.result (there c.before.before.before) c.if-s-l.true) in record { exact = all.0; short = all.1 }
+    (missing l a.queues.now a.items.now c.layout-l.ensures.laid a.name a.place a.item.now c.if-name-eq-BLANK.false (right (goal.at.returns-then-s-l c).After-layout-l)
+    (c.row_of.ensures.known c.if-row_of-l.false) c.slot_behind-s.result (there (goal.at.returns-then-s-l c).After-slot_behind-s) c.if-s-l.true) in record { exact = all.0; short = all.1 }
 
 pub overflow_add-at : goal.overflow_add-at
-overflow_add-at c = omega (arith, inside c.before, held c.before.before.before.before.before.before.before.before.before.before.before.before.before.before.before)
+overflow_add-at c = omega (arith, inside (goal.at.overflow_add-at c).Else-s-l, held (goal.at.overflow_add-at c).Start)
 
 pub offset_bounds-queues-at : goal.offset_bounds-queues-at
-offset_bounds-queues-at c = omega (arith, inside c.before, held c.before.before.before.before.before.before.before.before.before.before.before.before.before.before.before)
+offset_bounds-queues-at c = omega (arith, inside (goal.at.offset_bounds-queues-at c).Else-s-l, held (goal.at.offset_bounds-queues-at c).Start)
 
 pub returns : goal.returns
 returns c =
@@ -84,5 +85,5 @@ returns c =
     let bytes : length c.store.new.d ≡ length a.items.now = search rules in let all = plain_seen l a.queues.now v (length a.items.now) (length c.store.new.d) (λ (x : Queues). store x c.store.new.d)
     (λ (x : Queues). rewrite_in x a.items.now a.name a.place a.item.now) c.plain-2.result Normal 0
     c.layout-l.ensures.sized (simp length-set) bytes c.plain-2.ensures.exact
-    (rewritten l a.queues.now a.items.now c.layout-l.ensures.laid a.name a.place a.item.now c.if-name-eq-BLANK.false (right c.before.before.before.before.before.before.before.before.before.before.before.before.before)
-    (c.row_of.ensures.known c.if-row_of-l.false) c.slot_behind-s.result (there c.before.before.before.before.before.before.before.before) c.if-s-l.false c.store.new.d c.store.ensures.exact) in record { exact = all.0; short = all.1 }
+    (rewritten l a.queues.now a.items.now c.layout-l.ensures.laid a.name a.place a.item.now c.if-name-eq-BLANK.false (right (goal.at.returns c).After-layout-l)
+    (c.row_of.ensures.known c.if-row_of-l.false) c.slot_behind-s.result (there (goal.at.returns c).After-slot_behind-s) c.if-s-l.false c.store.new.d c.store.ensures.exact) in record { exact = all.0; short = all.1 }

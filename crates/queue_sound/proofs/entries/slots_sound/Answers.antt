@@ -1,10 +1,10 @@
 -- `queue_sound::entries::slots_sound` meets its contract: what is left of the slots drains what is left of the bits exactly if all of them drain all.
 -- Assumes nothing.
 use mathlib.Core.Path.{◌≡◌, refl, sym, ap, ◌∙◌, subst}
-use Prim.Native.Nat.{◌<◌, ◌+◌, ◌-◌}
+use Prim.Native.Nat.{◌<◌, ◌+◌}
 use native.Mathlib.Omega.{arith}
 use borrow.Author.Rules.{rules}
-use borrow.Author.Tests.{not-true, not-false, lt-leb}
+use borrow.Author.Tests.{lt-leb}
 use lib.ListN.{length, take, drop, get_or}
 use Rattle.slots.specs.declared.Used.{Used}
 use Rattle.slots.specs.Bits.{cleared}
@@ -28,7 +28,7 @@ pub returns-then-not-is_used : goal.returns-then-not-is_used
 returns-then-not-is_used c =
     let l = c.loop-i in
     let a = c.args in
-    sym (drain_miss a.slot.now a.n l.i l.v (omega arith) (omega arith) (sym c.is_used.ensures.exact ∙ not-true _ c.if-not-is_used.true-raw))
+    sym (drain_miss a.slot.now a.n l.i l.v (omega arith) (omega arith) (sym c.is_used.ensures.exact ∙ c.if-not-is_used.true))
     ∙ l.invariant.4 ∙ drained a.u l.invariant.2 a.n a.slot.now l.invariant.1
 
 pub loop-i-preserved : goal.loop-i-preserved
@@ -43,7 +43,7 @@ loop-i-preserved c =
       subst Typed (sym e) (cleared_typed l.v l.invariant.3 s),
       ap (λ (x : Used). drains x (drop (l.i + 1) (take a.n a.slot.now))) e
           ∙ drain_hit a.slot.now a.n l.i l.v (omega arith) (omega arith)
-          (sym c.is_used.ensures.exact ∙ not-false _ c.if-not-is_used.false-raw)
+          (sym c.is_used.ensures.exact ∙ c.if-not-is_used.false)
           ∙ l.invariant.4,
     )
 

@@ -1,6 +1,5 @@
 -- `queue_sound::rows::pointers_sound` meets its contract: what is left of the rows has its pointers right exactly if all rows have. Assumes nothing.
 use mathlib.Core.Path.{refl, sym, ◌∙◌}
-use Prim.Native.Nat.{◌-◌}
 use native.Mathlib.Omega.{arith}
 use borrow.Author.Rules.{rules}
 use lib.ListN.{take}
