@@ -2,7 +2,7 @@
 use mathlib.Core.Path.{◌≡◌, refl}
 use mathlib.Core.List.{List, [], ◌∷◌, ◌++◌}
 use Prim.Native.Nat.{ℕ}
-use lib.ListN.{length, replicate}
+use lib.ListN.{replicate}
 use Rattle.base.specs.Bytes.{bytes_of}
 use Rattle.model.specs.Lists.{framed}
 use Rattle.model.specs.Examples.{p1, asks, list_of}

@@ -2,7 +2,7 @@
 -- `put_tail w out ys` is what the borrow checker has of `out` once the tail is back as ys: its `put_mid w (length out - w) out ys`
 -- is an abbreviation of the same term, so that these laws apply to it as they stand.
 use Rattle.std.specs.Prelude.{◌≡◌, List, [], ◌++◌, ℕ, ◌+◌, ◌-◌, ◌≤◌, length, take, drop}
-use Rattle.std.proofs.Common.{ap, sym, ◌∙◌, append_assoc, append-nil, arith, length-append, length-drop, drop_of_length-le, drop-drop, length-take-le, take_all}
+use Rattle.std.proofs.Common.{ap, sym, ◌∙◌, append_assoc, append-nil, arith, length-append, length-drop, drop_of_length-le, drop-drop, take_all}
 use Rattle.base.specs.Lists.{over}
 use Rattle.base.specs.Laws.Over.{take_over, drop_over}
 use Rattle.frames.specs.Writing.{written, written_over}

@@ -1,6 +1,5 @@
 -- `number_at` meets its contract. The invariant: `i` bytes of the number are read (specs/Laws.antt, `Read`).
 -- Assumes nothing.
-use Prim.Native.Nat.{◌-◌}
 use native.Mathlib.Omega.{arith}
 use borrow.Author.Rules.{rules}
 use Rattle.records.specs.Laws.{read_more, read_below, read_all}

@@ -1,37 +1,28 @@
 -- `framing::scan` meets its contract. The invariant: the records passed and those left are those behind the header (proofs/Counted.antt).
 -- Assumes nothing.
-use mathlib.Core.Path.{◌≡◌, sym, ◌∙◌}
-use Prim.Native.Nat.{◌-◌}
+use mathlib.Core.Path.{sym, ◌∙◌}
 use native.Mathlib.Omega.{arith}
-use Rattle.frames.specs.Reading.{part_at}
 use Rattle.frames.specs.Laws.Reading.{record_told}
-use Rattle.frames.specs.declared.reading.Part.TheVariants.{Record}
 use Rattle.frames.proofs.Counted.{passed_none, passed_more, passed_end, passed_bad}
 use Rattle.frames.proofs.framing.scan.Goals as goal
 
 pub loop-next-init : goal.loop-next-init
 loop-next-init c = passed_none c.args.start c.args.list.now
 
--- what the reader said, in the arm of a record
-said : (c : goal.In-Record-2
-    → Record c.in-Record.start c.in-Record.next
-    ≡ part_at c.args.list.now c.loop-next.at
-said c = sym c.in-Record.is ∙ c.record_at.ensures.exact
-
 pub overflow_add-records : goal.overflow_add-records
 overflow_add-records c =
-    let t = (record_told _ _ _ _ (said c.before)).1 in
+    let t = (record_told _ _ _ _ (sym c.in-Record.is ∙ c.record_at.ensures.exact)).1 in
     let f = c.loop-next.invariant.few in
     omega arith
 
 pub loop-next-smaller : goal.loop-next-smaller
 loop-next-smaller c =
-    let t = (record_told _ _ _ _ (said c.before)).1 in
+    let t = (record_told _ _ _ _ (sym c.in-Record.is ∙ c.record_at.ensures.exact)).1 in
     let w = c.loop-next.invariant.within in
     omega arith
 
 pub loop-next-preserved : goal.loop-next-preserved
-loop-next-preserved c = passed_more _ _ _ _ c.loop-next.invariant _ _ (said c.before)
+loop-next-preserved c = passed_more _ _ _ _ c.loop-next.invariant _ _ (sym c.in-Record.is ∙ c.record_at.ensures.exact)
 
 pub returns-in-End : goal.returns-in-End
 returns-in-End c =

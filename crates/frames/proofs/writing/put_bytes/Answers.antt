@@ -1,7 +1,6 @@
 -- `writing::put_bytes` meets its contract. The invariant: the buffer is the paste of the bytes passed.
 -- Assumes nothing.
 use mathlib.Core.Path.{◌≡◌, refl}
-use Prim.Native.Nat.{◌-◌}
 use native.Mathlib.Numerals.{add-one}
 use native.Mathlib.Omega.{arith}
 use lib.ListN.{length-set}

@@ -17,5 +17,7 @@ returns-then-out-n c = let a = c.args in
 pub returns : goal.returns
 returns c = let a = c.args in
     let h = c.put_head in
-    let n = c.carried-n.ensures.0 in record { exact = put_all a.condition a.action a.label a.number a.bytes.now a.len a.out.now h.new.0 c.put_bytes.new.out
-    c.carried-n.result n (omega arith) h.ensures c.put_bytes.ensures }
+    let n = c.carried-n.ensures.0 in record {
+      exact = put_all a.condition a.action a.label a.number a.bytes.now a.len a.out.now h.new.out c.put_bytes.new.out
+          c.carried-n.result n (omega arith) h.ensures.exact c.put_bytes.ensures;
+    }
