@@ -12,16 +12,16 @@ loop-i-init c = record { here = omega arith; most = c.least-m.ensures.exact; lon
 pub returns-then-is_task : goal.returns-then-is_task
 returns-then-is_task c =
     let l = c.loop-i in
-    let a = c.args in let all = active_both a.t1 a.name true
-    (sym (seeks_some (task a.name) a.t1 _ l.i l.invariant (omega arith) (sym c.is_task.ensures.exact ∙ c.if-is_task.true))) in record { exact = all.0; model = all.1 }
+    let a = c.args in let all = active_both a.t a.name true
+    (sym (seeks_some (task a.name) a.t _ l.i l.invariant (omega arith) (sym c.is_task.ensures.exact ∙ c.if-is_task.true))) in record { exact = all.0; model = all.1 }
 
 pub loop-i-preserved : goal.loop-i-preserved
 loop-i-preserved c =
     let l = c.loop-i in
     let a = c.args in
-    seeks_on (task a.name) a.t1 _ l.i l.invariant (omega arith) (sym c.is_task.ensures.exact ∙ c.if-is_task.false)
+    seeks_on (task a.name) a.t _ l.i l.invariant (omega arith) (sym c.is_task.ensures.exact ∙ c.if-is_task.false)
 
 pub returns : goal.returns
 returns c =
     let l = c.loop-i in
-    let a = c.args in let all = active_both a.t1 a.name false (sym (seeks_none (task a.name) a.t1 _ l.i l.invariant c.loop-i-test.false)) in record { exact = all.0; model = all.1 }
+    let a = c.args in let all = active_both a.t a.name false (sym (seeks_none (task a.name) a.t _ l.i l.invariant c.loop-i-test.false)) in record { exact = all.0; model = all.1 }

@@ -1,5 +1,5 @@
 -- `dispatch::dispatch` meets its contract: the rows passed cannot start, and the count is how many of them are in the line. Assumes nothing.
-use Rattle.std.proofs.Common.{◌-◌, ◌<◌, get_or, sym, refl, ap, ◌∙◌, ⊎_elim, arith, rules}
+use Rattle.std.proofs.Common.{◌-◌, ◌<◌, get_or, sym, refl, ap, ◌∙◌, arith, rules}
 use Rattle.interval.specs.declared.Requests.{Requests}
 use Rattle.interval.specs.Rows.{out_row}
 use Rattle.interval.specs.Dispatch.{dispatch_in}
@@ -7,6 +7,7 @@ use Rattle.interval.specs.Laws.Typed.{unmapped}
 use Rattle.interval.specs.Laws.Dispatch.{dispatch_both, dispatch_hit, dispatch_none}
 use Rattle.interval.proofs.Picks.{free_is, passes_held, passes_other, picks, picks_none}
 use Rattle.interval.proofs.dispatch.dispatch.Goals as goal
+use Rattle.interval.proofs.dispatch.dispatch.Goals.{then-expired+else-free, else-expired}
 
 pub loop-i-init : goal.loop-i-init
 loop-i-init c = (
@@ -33,12 +34,12 @@ loop-i-preserved c =
     let low : l.i < c.least-m.result = omega arith in (
       l.invariant.0,
       l.invariant.1,
-      ⊎_elim
-          (λ w.
-          let free = sym (w.6.ensures ∙ free_is t c.busy_in-b.result l.invariant.1 (get_or t.rows l.i out_row)) ∙ w.7.left in
-          passes_held t _ l.i l.passed l.invariant.2 low _ (sym c.expired.ensures ∙ w.0.taken) free w.8)
-          (λ w. passes_other t _ l.i l.passed l.invariant.2 low _ (sym c.expired.ensures ∙ w.0.left) w.1)
-          c.if-expired.branch,
+      elim c.if-expired.branch [
+        then-expired+else-free w ↦
+          let free = sym (w.free.ensures ∙ free_is t c.busy_in-b.result l.invariant.1 (get_or t.rows l.i out_row)) ∙ w.if-free.false in
+          passes_held t _ l.i l.passed l.invariant.2 low _ (sym c.expired.ensures ∙ w.if-expired.true) free w.passed-is
+      | else-expired w ↦ passes_other t _ l.i l.passed l.invariant.2 low _ (sym c.expired.ensures ∙ w.if-expired.false) w.passed-is
+      ],
     )
 
 pub returns : goal.returns

@@ -17,7 +17,7 @@ pub loop-i-preserved : goal.loop-i-preserved
 loop-i-preserved c =
     let v = c.loop-i.invariant in
     let h = c.loop-i-test.true in
-    elim c.if-found.branch [ then-found w ↦ rw (w.2, w.3, (v.some w.if-found.true).0) (removing_down v h out_row w.if-found.true) | else-found w ↦ rw (w.1, w.2, (v.none w.if-found.false).0) (removing_on v h out_row w.if-found.false) ]
+    elim c.if-found.branch [ then-found w ↦ rw (w.t-is, w.found-is, (v.some w.if-found.true).0) (removing_down v h out_row w.if-found.true) | else-found w ↦ rw (w.t-is, w.found-is, (v.none w.if-found.false).0) (removing_on v h out_row w.if-found.false) ]
 
 pub overflow_sub-t : goal.overflow_sub-t
 overflow_sub-t c =
@@ -29,9 +29,14 @@ returns-then-found-2 c =
     let v = c.loop-i.invariant in
     let a = c.args in
     let g = c.loop-i-test.false in
-    let f = c.if-found-2.true in let all = removed a.t1 a.name _ _ refl (removed_some v g f) (ap₂ counted (removed_count v g f) (removed_all v g f)) in record { exact = all.0; model = all.1 }
+    let f = c.if-found-2.true in
+    let all = removed a.t a.name _ _ refl (removed_some v g f) (ap₂ counted (removed_count v g f) (removed_all v g f)) in
+    record { exact = all.0; model = all.1 }
 
 pub returns-else-found-2 : goal.returns-else-found-2
 returns-else-found-2 c =
     let v = c.loop-i.invariant in
-    let a = c.args in let all = rw (v.none c.if-found-2.false).0 (nothing_removed a.t1 a.name (removed_none v c.loop-i-test.false c.if-found-2.false)) in record { exact = all.0; model = all.1 }
+    let a = c.args in
+    let same = (v.none c.if-found-2.false).0 in
+    let all = nothing_removed a.t a.name (removed_none v c.loop-i-test.false c.if-found-2.false) in
+    record { exact = rw same all.0; model = rw same all.1 }

@@ -12,16 +12,16 @@ pub returns-then-serve : goal.returns-then-serve
 returns-then-serve c =
     let l = c.loop-i in
     let a = c.args in
-    seeks_hit (serves a.program a.terminal) a.t1 _ l.i l.invariant (omega arith) (sym c.serve.ensures ∙ c.if-serve.true)
+    seeks_hit (serves a.program a.terminal) a.t _ l.i l.invariant (omega arith) (sym c.serve.ensures ∙ c.if-serve.true)
 
 pub loop-i-preserved : goal.loop-i-preserved
 loop-i-preserved c =
     let l = c.loop-i in
     let a = c.args in
-    seeks_on (serves a.program a.terminal) a.t1 _ l.i l.invariant (omega arith) (sym c.serve.ensures ∙ c.if-serve.false)
+    seeks_on (serves a.program a.terminal) a.t _ l.i l.invariant (omega arith) (sym c.serve.ensures ∙ c.if-serve.false)
 
 pub returns : goal.returns
 returns c =
     let l = c.loop-i in
     let a = c.args in
-    seeks_end (serves a.program a.terminal) a.t1 _ l.i l.invariant c.loop-i-test.false
+    seeks_end (serves a.program a.terminal) a.t _ l.i l.invariant c.loop-i-test.false

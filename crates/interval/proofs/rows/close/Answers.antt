@@ -29,7 +29,7 @@ pub loop-k-preserved : goal.loop-k-preserved
 loop-k-preserved c =
     let l = c.loop-k in
     let a = c.args in
-    let t : Requests = a.t1 in
+    let t : Requests = a.t in
     let e : l.t ≡ with_rows t (over (cut_at a.i (take (l.k + 1) t.rows)) t.rows) = l.invariant.4 in (
       omega arith,
       omega arith,
@@ -42,7 +42,7 @@ pub returns : goal.returns
 returns c =
     let l = c.loop-k in
     let a = c.args in
-    let t : Requests = a.t1 in
+    let t : Requests = a.t in
     let e : l.t ≡ with_rows t (over (cut_at a.i (take (l.k + 1) t.rows)) t.rows) = l.invariant.4 in
     let k : l.k + 1 ≡ min t.count (length t.rows) = omega arith in
     let f : take (l.k + 1) t.rows ≡ live t = ap (λ (n : ℕ). take n t.rows) k ∙ take_least t.count t.rows in

@@ -12,16 +12,16 @@ pub returns-then-t-i : goal.returns-then-t-i
 returns-then-t-i c =
     let l = c.loop-i in
     let a = c.args in
-    seeks_hit (named a.name) a.t1 _ l.i l.invariant (omega arith) (eq-eqb _ _ c.if-t-i.true)
+    seeks_hit (named a.name) a.t _ l.i l.invariant (omega arith) (eq-eqb _ _ c.if-t-i.true)
 
 pub loop-i-preserved : goal.loop-i-preserved
 loop-i-preserved c =
     let l = c.loop-i in
     let a = c.args in
-    seeks_on (named a.name) a.t1 _ l.i l.invariant (omega arith) (ne_eqb _ _ c.if-t-i.false)
+    seeks_on (named a.name) a.t _ l.i l.invariant (omega arith) (ne_eqb _ _ c.if-t-i.false)
 
 pub returns : goal.returns
 returns c =
     let l = c.loop-i in
     let a = c.args in
-    seeks_end (named a.name) a.t1 _ l.i l.invariant c.loop-i-test.false
+    seeks_end (named a.name) a.t _ l.i l.invariant c.loop-i-test.false
