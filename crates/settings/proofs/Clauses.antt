@@ -59,8 +59,8 @@ said_plain r k v o e f =
     (gave_none r v o (ap (λ (q : Said). told q [] v) e ∙ f) n, omega arith)
 
 -- another name of the same outcome
-pub says_as : (r : Said) (v : Tasks) {o p : Outcome Tasks} → o ≡ p → Says r v o × (r.len ≤ 64) → Says r v p × (r.len ≤ 64)
-says_as r v e h = (rw e at h.0, h.1)
+pub says_as : (r : Said) (v : Tasks) {o p : Outcome Tasks} → o ≡ p → Says r v o → Says r v p
+says_as r v e h = rw e at h
 
 module _ (t : Tasks) (n c : ℕ) where
   pub set_refused : (x : Setting) → 10 < c → told (saying InvalidRequest 0 0) [] t ≡ set_to (ltb 10 c) t n c x
@@ -87,16 +87,14 @@ module _ (t : Tasks) (n c : ℕ) where
   said_all false x r v h = told_all r v (set_to false t n c x) h
 
   module _ (r : Said) (v : Tasks) where
-    pub handle_all : (label : ℕ) → label < 2 ^ 16 → Says r v (handle_in t n c label) × (r.len ≤ 64)
-        → Says r v (handle_in t n c label) × ((r.len ≤ 64) × Obeys t n (told r [] v) (model.handle (tasks_of t) n c label))
+    pub handle_obeys : (label : ℕ) → label < 2 ^ 16 → Says r v (handle_in t n c label) → Obeys t n (told r [] v) (model.handle (tasks_of t) n c label)
     unfolding handle_in
-    handle_all label w h =
-        (h.0, (h.1, λ s k. rw (said_all (ltb 10 c || eqb label 0) (Label label) r v h.0) (handle_follows t n c s k label w)))
+    handle_obeys label w h = λ s k. rw (said_all (ltb 10 c || eqb label 0) (Label label) r v h) (handle_follows t n c s k label w)
 
-    pub ignore_all : Says r v (ignore_in t n c) × (r.len ≤ 64) → Says r v (ignore_in t n c) × ((r.len ≤ 64) × Obeys t n (told r [] v) (model.ignore (tasks_of t) n c))
+    pub ignore_obeys : Says r v (ignore_in t n c) → Obeys t n (told r [] v) (model.ignore (tasks_of t) n c)
     unfolding ignore_in
-    ignore_all h = (h.0, (h.1, λ s k. rw (said_all (ltb 10 c) Ignore r v h.0) (ignore_follows t n c s k)))
+    ignore_obeys h = λ s k. rw (said_all (ltb 10 c) Ignore r v h) (ignore_follows t n c s k)
 
-    pub reset_all : Says r v (reset_in t n c) × (r.len ≤ 64) → Says r v (reset_in t n c) × ((r.len ≤ 64) × Obeys t n (told r [] v) (model.reset (tasks_of t) n c))
+    pub reset_obeys : Says r v (reset_in t n c) → Obeys t n (told r [] v) (model.reset (tasks_of t) n c)
     unfolding reset_in
-    reset_all h = (h.0, (h.1, λ s k. rw (said_all (ltb 10 c) Unset r v h.0) (reset_follows t n c s k)))
+    reset_obeys h = λ s k. rw (said_all (ltb 10 c) Unset r v h) (reset_follows t n c s k)

@@ -65,6 +65,9 @@ pub record Found (t : Tasks) (n task i : ℕ) : Type 0 where
   pub many : n ≡ length (live t)
   pub place : i ≡ first_at (named task) (take n t.rows)
 
+pub found : (t : Tasks) {n task i : ℕ} → n ≡ length (live t) → i ≡ first_at (named task) (take n t.rows) → Found t n task i
+found t m p = record { many = m; place = p }
+
 module _ {t : Tasks} {n task i : ℕ} (f : Found t n task i) where
   at_place : i ≡ place_in t task
   at_place = f.place ∙ ap (first_at (named task)) (first_live t n f.many)

@@ -15,7 +15,6 @@ use Rattle.settings.specs.declared.Setting.{Setting}
 use Rattle.settings.specs.declared.Setting.TheVariants.{Unset, Ignore, Label}
 use Rattle.settings.specs.Rows.{Line, line, setting_word, no_line}
 use Rattle.settings.specs.Table.{Tasks, tasks, setting_of, meant, task_of, tasks_of, sound_h}
-use Rattle.settings.specs.Laws.Lines.{eleven}
 use Rattle.settings.specs.Laws.Standing.{sound_of}
 use Rattle.settings.specs.Laws.Set.{word_read}
 use Rattle.settings.specs.Laws.Typed.{wide_word, typed_row, Typed}

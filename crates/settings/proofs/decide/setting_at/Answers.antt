@@ -1,8 +1,8 @@
 -- `decide::setting_at` meets its contract: a row has eleven settings. Assumes nothing.
-use Prim.Native.Nat.{ℕ, ◌+◌, ◌*◌, ◌-◌, ◌<◌, ◌≤◌}
+use Prim.Native.Nat.{ℕ, ◌+◌, ◌*◌}
 use mathlib.Core.Path.{sym, ap, ◌∙◌}
 use native.Mathlib.Omega.{arith}
-use lib.ListN.{length, get_or, get_or-eq_default}
+use lib.ListN.{get_or, get_or-eq_default}
 use Rattle.settings.specs.Rows.{read_setting, no_line}
 use Rattle.settings.specs.Table.{view_of}
 use Rattle.settings.specs.Laws.Lent.{row_fits, row_long, cell_read}
@@ -17,28 +17,21 @@ returns-then-condition-gt-LAST c =
     let n = row_long w a.i c.requires in
     sym (ap read_setting (get_or-eq_default cells 0 {n = a.condition} (omega arith)))
 
--- the row is in the words
-fit : (c : goal.Else-condition-gt-LAST) → (c.args.i + 1) * 12 ≤ length c.args.settings.now - 1
-fit c = row_fits c.args.settings.now c.args.i c.requires
-
--- and so is the setting
-at : (c : goal.After-wide) → c.args.i * 12 + 2 + c.wide.result < length c.args.settings.now
-at c = omega (arith, fit c.before, c.wide.ensures.exact, c.if-condition-gt-LAST.false)
-
 pub overflow_mul-at : goal.overflow_mul-at
-overflow_mul-at c = omega (arith, fit c)
+overflow_mul-at c = omega (arith, row_fits c.args.settings.now c.args.i c.requires)
 
 pub overflow_add-at : goal.overflow_add-at
-overflow_add-at c = omega (arith, fit c)
+overflow_add-at c = omega (arith, row_fits c.args.settings.now c.args.i c.requires)
 
+-- the setting is in the words, as the row is
 pub overflow_add-at-2 : goal.overflow_add-at-2
-overflow_add-at-2 c = omega (arith, at c)
+overflow_add-at-2 c = omega (arith, row_fits c.args.settings.now c.args.i c.requires)
 
 pub offset_bounds-settings-at : goal.offset_bounds-settings-at
-offset_bounds-settings-at c = omega (arith, at c)
+offset_bounds-settings-at c = omega (arith, row_fits c.args.settings.now c.args.i c.requires)
 
 pub bounds-settings-at : goal.bounds-settings-at
-bounds-settings-at c = at c.before
+bounds-settings-at c = omega (arith, row_fits c.args.settings.now c.args.i c.requires)
 
 pub returns : goal.returns
 returns c =

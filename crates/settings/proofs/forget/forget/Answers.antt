@@ -1,49 +1,61 @@
 -- `forget::forget` meets its contract: the rows that count are lent, and come back without one. Assumes nothing.
-use Prim.Native.Nat.{◌+◌, ◌*◌, ◌-◌, ◌≤◌}
+use Prim.Native.Nat.{◌+◌, ◌*◌, ◌-◌}
 use mathlib.Core.Path.{◌≡◌, ◌∙◌}
 use native.Mathlib.Omega.{arith}
-use lib.ListN.{length}
-use Rattle.settings.specs.Table.{Tasks, view_of}
+use Rattle.settings.specs.Table.{view_of}
 use Rattle.settings.specs.Laws.Lent.{rows_fit, put_some, cut_back}
 use Rattle.settings.proofs.Clauses.{forget_both}
-use Rattle.settings.proofs.Coded.{fits, Found, forget_held, forget_none}
+use Rattle.settings.proofs.Coded.{fits, found, forget_held, forget_none}
 use Rattle.settings.proofs.forget.forget.Goals as goal
 
-abbrev seen : goal.Start → Tasks
-seen s = view_of s.args.settings.now
-
 pub place-i-requires : goal.place-i-requires
-place-i-requires c = fits (seen c.before.before) c.count-n.result c.count-n.ensures.exact
-
-found : (c : goal.After-place-i) → Found (seen c.before.before.before) c.count-n.result c.args.task c.place-i.result
-found c = record { many = c.count-n.ensures.exact; place = c.place-i.ensures }
+place-i-requires c = fits (view_of c.args.settings.now) c.count-n.result c.count-n.ensures.exact
 
 -- the rows are in the words
-fit : (c : goal.Then-i-n) → c.count-n.result * 12 ≤ length c.args.settings.now - 1
-fit c =
-    rows_fit c.args.settings.now c.count-n.result (fits (seen c.before.before.before.before) c.count-n.result c.count-n.ensures.exact)
-
 pub overflow_mul-end : goal.overflow_mul-end
-overflow_mul-end c = omega (arith, fit c)
+overflow_mul-end c =
+    let w = c.args.settings.now in
+    let n = c.count-n in
+    omega (arith, rows_fit w n.result (fits (view_of w) n.result n.ensures.exact))
 
 pub overflow_add-end : goal.overflow_add-end
-overflow_add-end c = omega (arith, fit c)
+overflow_add-end c =
+    let w = c.args.settings.now in
+    let n = c.count-n in
+    omega (arith, rows_fit w n.result (fits (view_of w) n.result n.ensures.exact))
+
+pub slice_bounds-shut-end : goal.slice_bounds-shut-end
+slice_bounds-shut-end c =
+    let w = c.args.settings.now in
+    let n = c.count-n in
+    omega (arith, rows_fit w n.result (fits (view_of w) n.result n.ensures.exact))
 
 pub overflow_mul-i : goal.overflow_mul-i
-overflow_mul-i c = omega (arith, fit c.before, c.if-i-n.true)
+overflow_mul-i c =
+    let w = c.args.settings.now in
+    let n = c.count-n in
+    omega (arith, rows_fit w n.result (fits (view_of w) n.result n.ensures.exact), c.if-i-n.true)
 
 pub bounds-settings-0 : goal.bounds-settings-0
 bounds-settings-0 c =
-    put_some c.args.settings.now c.count-n.result c.place-i.result (c.count-n.result * 12 + 1 - 1)
-    (fits (seen c.before.before.before.before.before.before.before.before) c.count-n.result c.count-n.ensures.exact) c.if-i-n.true (omega arith) c.shut.new.t
+    let w = c.args.settings.now in
+    let n = c.count-n in
+    put_some w n.result c.place-i.result (n.result * 12 + 1 - 1) (fits (view_of w) n.result n.ensures.exact) c.if-i-n.true (omega arith) c.shut.new.t
 
 pub returns-then-i-n : goal.returns-then-i-n
 returns-then-i-n c =
+    let w = c.args.settings.now in
+    let n = c.count-n in
+    let i = c.place-i.result in
     let r = c.shut in
-    let k : c.count-n.result * 12 + 1 - 1 ≡ c.count-n.result * 12 = omega arith in let all = forget_both (seen c.before.before.before.before.before.before.before.before) c.args.task _
-    (cut_back c.args.settings.now c.count-n.result c.place-i.result (c.count-n.result * 12 + 1 - 1)
-    (fits (seen c.before.before.before.before.before.before.before.before) c.count-n.result c.count-n.ensures.exact) c.if-i-n.true k r.new.0 (c.count-n.result - 1) r.ensures
-    ∙ forget_held (found c.before.before.before.before.before) c.if-i-n.true) in record { exact = all.0; model = all.1 }
+    let k : n.result * 12 + 1 - 1 ≡ n.result * 12 = omega arith in
+    let all = forget_both (view_of w) c.args.task _
+    (cut_back w n.result i (n.result * 12 + 1 - 1) (fits (view_of w) n.result n.ensures.exact) c.if-i-n.true k r.new.t (n.result - 1) r.ensures.exact
+    ∙ forget_held (found (view_of w) n.ensures.exact c.place-i.ensures) c.if-i-n.true) in
+    record { exact = all.0; model = all.1 }
 
 pub returns-else-i-n : goal.returns-else-i-n
-returns-else-i-n c = let all = forget_both (seen c.before.before.before.before) c.args.task (seen c.before.before.before.before) (forget_none (found c.before) c.if-i-n.false) in record { exact = all.0; model = all.1 }
+returns-else-i-n c =
+    let t = view_of c.args.settings.now in
+    let all = forget_both t c.args.task t (forget_none (found t c.count-n.ensures.exact c.place-i.ensures) c.if-i-n.false) in
+    record { exact = all.0; model = all.1 }

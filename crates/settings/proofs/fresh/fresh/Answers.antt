@@ -8,4 +8,6 @@ use Rattle.settings.proofs.fresh.fresh.Goals as goal
 pub returns : goal.returns
 returns c =
     let w = c.args.settings.now in
-    let r = c.clear in let all = fresh_both (view_of w) (view_of r.new.0) (ap view_of r.ensures ∙ view_zero w) in record { exact = all.0; model = all.1 }
+    let r = c.clear in
+    let all = fresh_both (view_of w) (view_of r.new.t) (ap view_of r.ensures.exact ∙ view_zero w) in
+    record { exact = all.0; model = all.1 }

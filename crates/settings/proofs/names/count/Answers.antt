@@ -7,4 +7,6 @@ use Rattle.settings.proofs.names.count.Goals as goal
 
 pub returns : goal.returns
 returns c =
-    let t = view_of c.args.settings.now in let all = count_both t c.least.result (omega (arith, length-take t.count t.rows, c.least.ensures.exact, c.rows_in.ensures)) in record { exact = all.0; model = all.1 }
+    let t = view_of c.args.settings.now in
+    let all = count_both t c.least.result (omega (arith, length-take t.count t.rows, c.least.ensures.exact, c.rows_in.ensures)) in
+    record { exact = all.0; model = all.1 }

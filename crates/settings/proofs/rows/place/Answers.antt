@@ -32,3 +32,6 @@ returns c =
     let l = take n (view_of w).rows in
     c.find.ensures.exact ∙ ap (first_at (λ m. eqb m c.args.task)) (names_lent w n c.requires (n * 12 + 1 - 1) e)
     ∙ first_at_map name_of (named c.args.task) (λ m. eqb m c.args.task) (λ v. refl) l
+
+pub slice_bounds-find-end : goal.slice_bounds-find-end
+slice_bounds-find-end c = omega (arith, rows_fit c.args.settings.now c.args.n c.requires)

@@ -8,14 +8,15 @@ use lib.ListN.{length, set, replicate, length-set}
 use Rattle.settings.proofs.set.new_row.Goals as goal
 
 -- the row is cleared
-zeros : (c : goal.After-clear) → c.clear.new.t ≡ replicate 12 0
-zeros c = c.clear.ensures.exact ∙ ap (λ (n : ℕ). replicate n 0) c.requires.0
+zeros : (w r : List ℕ) → r ≡ replicate (length w) 0 → length w ≡ 12 → r ≡ replicate 12 0
+zeros w r e n = e ∙ ap (λ (k : ℕ). replicate k 0) n
 
 pub bounds-row-c : goal.bounds-row-c
 bounds-row-c c =
-    simp length-set (omega (arith, ap length (zeros c.before.before), c.requires.1))
+    let r = c.requires in
+    simp length-set (omega (arith, ap length (zeros c.args.row.now c.clear.new.t c.clear.ensures.exact r.row_len), r.c_bound))
 
 pub returns : goal.returns
 returns c =
     let a = c.args in
-    ap₂ (λ (r : List ℕ) (k : ℕ). set (set r 0 a.task) k a.w) (zeros c.before.before) (add-one a.c)
+    ap₂ (λ (r : List ℕ) (k : ℕ). set (set r 0 a.task) k a.w) (zeros a.row.now c.clear.new.t c.clear.ensures.exact c.requires.row_len) (add-one a.c)

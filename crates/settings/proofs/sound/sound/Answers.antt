@@ -15,5 +15,8 @@ named_once-requires c =
 
 pub returns : goal.returns
 returns c =
-    let w = c.args.settings.now in record { exact = c.named_once.ensures
-    ∙ sound_named (view_of w) c.count-n.result c.count-n.ensures.exact (omega (arith, c.if-n-word_at.false, c.word_at.ensures.exact)) (view_each w) }
+    let w = c.args.settings.now in
+    record {
+      exact = c.named_once.ensures
+          ∙ sound_named (view_of w) c.count-n.result c.count-n.ensures.exact (omega (arith, c.if-n-word_at.false, c.word_at.ensures.exact)) (view_each w);
+    }
