@@ -16,8 +16,8 @@ use Rattle.model.specs.Limits.{Limits, some}
 use Rattle.model.specs.Plans.{Outcome, Plan, first_of, cut}
 use Rattle.model.specs.Interval.{Phase, Waiting, Expired, Active, Request, Interval, Asked, in_phase, is_due, is_active, is_expired, expired, active, no_request, known_request, request_of, active_task, at_request, remove, accepted, line, startable, started, none_startable, has_own, serves, server, took_own, define_program, define_terminal, advance, ask_ticks, dispatch, start, cancel, retrieve, sound_interval}
 use Rattle.model.specs.Laws.PlanLaws.{clears}
-use Rattle.model.specs.Laws.SoundInterval.{view, name_of}
-use Rattle.model.specs.Laws.SoundAdvance.{stays, fallen}
+use Rattle.model.proofs.Laws.SoundInterval.{view, name_of}
+use Rattle.model.proofs.Laws.SoundAdvance.{stays, fallen}
 
 -- ---- the steps
 

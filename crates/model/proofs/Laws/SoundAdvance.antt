@@ -15,7 +15,7 @@ use Rattle.base.specs.Laws.Sorting.{length_sort, all_sort, copies_sort}
 use Rattle.model.specs.Limits.{Limits}
 use Rattle.model.specs.Plans.{first_of}
 use Rattle.model.specs.Interval.{Phase, Waiting, Expired, Active, Request, Interval, with_clock, in_phase, is_due, no_later, active, newly, lapse, advance, sound_phase, sound_request, sound_interval}
-use Rattle.model.specs.Laws.SoundInterval.{view, view_request, in_phase_lem, put_requests, name_of, program_of, terminal_of, holder}
+use Rattle.model.proofs.Laws.SoundInterval.{view, view_request, in_phase_lem, put_requests, name_of, program_of, terminal_of, holder}
 
 -- ---- the lapsed list, of any clock
 

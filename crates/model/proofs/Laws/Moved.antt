@@ -10,7 +10,7 @@ use Rattle.model.specs.State.{State, empty_at}
 use Rattle.model.specs.Commands.{step}
 use Rattle.model.specs.Lists.{answers_from}
 use Rattle.model.specs.Demands.{Monitor, Demand3, Moved, retick, reticked}
-use Rattle.model.specs.Laws.Shift.{shift, state_shift, answer_shift}
+use Rattle.model.proofs.Laws.Shift.{shift, state_shift, answer_shift}
 
 module _ (L : Limits) where
   -- the model's answers, its tables moved on by k

@@ -10,13 +10,13 @@ use Rattle.model.specs.Interval.{Phase, Waiting, Expired, Active, Request, in_ph
 use Rattle.model.specs.State.{State, empty_at, with_interval, sound}
 use Rattle.model.specs.Commands.{Answer, Turn, formed, allowed, refused, step, step_any}
 use Rattle.model.specs.Demands.{Stepped, Monitor, Heard, Kept, Stepping, Proper, Space, Demand1, Demand2, Demand3}
-use Rattle.model.specs.Laws.Generic.{demand3}
-use Rattle.model.specs.Laws.Shift.{later_phase, later, shift, state_shift, answer_same, allowed_shift}
-use Rattle.model.specs.Laws.SoundShift.{sound_shift}
-use Rattle.model.specs.Laws.SoundStep.{empty_sound, step_sound}
-use Rattle.model.specs.Laws.Space.{space}
-use Rattle.model.specs.Laws.Conditions.{step_malformed, step_stranger, fine_heard}
-use Rattle.model.specs.Laws.Written.{step_proper, proper_plain}
+use Rattle.model.proofs.Laws.Generic.{demand3}
+use Rattle.model.proofs.Laws.Shift.{later_phase, later, shift, state_shift, answer_same, allowed_shift}
+use Rattle.model.proofs.Laws.SoundShift.{sound_shift}
+use Rattle.model.proofs.Laws.SoundStep.{empty_sound, step_sound}
+use Rattle.model.proofs.Laws.Space.{space}
+use Rattle.model.proofs.Laws.Conditions.{step_malformed, step_stranger, fine_heard}
+use Rattle.model.proofs.Laws.Written.{step_proper, proper_plain}
 
 -- the tables are a state, and stand for it at each clock that its register can mean
 pub record Same (t s : State) : Type 0 where

@@ -17,14 +17,14 @@ use Rattle.model.specs.State.{State, empty_at, with_interval, with_queues, with_
 use Rattle.model.specs.Commands.{Row, Turn, command, issuer, operand, rest, asked, wrong_kind, row_of, plan_of, obeyed, settled, settle, allowed, step}
 use Rattle.model.specs.Laws.Rows.{◌▹◌, of_every}
 use Rattle.model.specs.Laws.PlanLaws.{clear_head, obey_keeps}
-use Rattle.model.specs.Laws.Conditions.{settle_is, step_heard, turn_is}
-use Rattle.model.specs.Laws.SoundQueues as queues
-use Rattle.model.specs.Laws.SoundTasks as tasks
-use Rattle.model.specs.Laws.SoundInterval.{idle_sound, ask_sound, program_sound, terminal_sound, remove_sound, cancel_sound}
-use Rattle.model.specs.Laws.SoundStart.{start_sound}
-use Rattle.model.specs.Laws.SoundAdvance.{advance_sound}
-use Rattle.model.specs.Laws.SoundDispatch.{dispatch_sound, retrieve_sound}
-use Rattle.model.specs.Laws.StaysActive.{remove_active, program_active, terminal_active, advance_active, start_active, ask_active, dispatch_active, cancel_active, retrieve_active}
+use Rattle.model.proofs.Laws.Conditions.{settle_is, step_heard, turn_is}
+use Rattle.model.proofs.Laws.SoundQueues as queues
+use Rattle.model.proofs.Laws.SoundTasks as tasks
+use Rattle.model.proofs.Laws.SoundInterval.{idle_sound, ask_sound, program_sound, terminal_sound, remove_sound, cancel_sound}
+use Rattle.model.proofs.Laws.SoundStart.{start_sound}
+use Rattle.model.proofs.Laws.SoundAdvance.{advance_sound}
+use Rattle.model.proofs.Laws.SoundDispatch.{dispatch_sound, retrieve_sound}
+use Rattle.model.proofs.Laws.StaysActive.{remove_active, program_active, terminal_active, advance_active, start_active, ask_active, dispatch_active, cancel_active, retrieve_active}
 
 -- ---- the rules of the whole, by name
 

@@ -15,11 +15,11 @@ use Rattle.model.specs.State.{State, sound}
 use Rattle.model.specs.Commands.{Row, Answer, Turn, command, issuer, operand, rest, table, row_of, formed, allowed, plan_of, obeyed, plain, settled, settle, step}
 use Rattle.model.specs.Demands.{Proper}
 use Rattle.model.specs.Laws.Rows.{Each, ◌▹◌, of_every}
-use Rattle.model.specs.Laws.SoundQueues.{item_size, item_bytes, items_few}
-use Rattle.model.specs.Laws.SoundTasks.{decides_sound}
-use Rattle.model.specs.Laws.IntervalSizes.{own_size, server_size, requests_few, line_few, newly_few}
-use Rattle.model.specs.Laws.Conditions.{dispatch_is, retrieve_is, append_is, settle_is, Fine, step_heard, turn_is, fine_heard}
-use Rattle.model.specs.Laws.SoundStep.{StateSound, view}
+use Rattle.model.proofs.Laws.SoundQueues.{item_size, item_bytes, items_few}
+use Rattle.model.proofs.Laws.SoundTasks.{decides_sound}
+use Rattle.model.proofs.Laws.IntervalSizes.{own_size, server_size, requests_few, line_few, newly_few}
+use Rattle.model.proofs.Laws.Conditions.{dispatch_is, retrieve_is, append_is, settle_is, Fine, step_heard, turn_is, fine_heard}
+use Rattle.model.proofs.Laws.SoundStep.{StateSound, view}
 
 -- ---- a refusal
 

@@ -15,8 +15,8 @@ use Rattle.model.specs.State.{State, empty_at}
 use Rattle.model.specs.Commands.{step}
 use Rattle.model.specs.Lists.{Framed, bad, good, behind, whole, records, headed, framed, answers_from, refusal, answered, ran, run}
 use Rattle.model.specs.Demands.{ListDemands, are_bytes}
-use Rattle.model.specs.Laws.Shift.{shift, state_shift, answer_same}
-use Rattle.model.specs.Laws.Moved.{from_two, round}
+use Rattle.model.proofs.Laws.Shift.{shift, state_shift, answer_same}
+use Rattle.model.proofs.Laws.Moved.{from_two, round}
 
 -- ---- an accepted list tells its header's start value
 

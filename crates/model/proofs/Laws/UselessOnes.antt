@@ -10,8 +10,8 @@ use Rattle.model.specs.Limits.{cabinet}
 use Rattle.model.specs.State.{State, empty_at}
 use Rattle.model.specs.Commands.{Answer, Turn, refused, formed, allowed, step}
 use Rattle.model.specs.Demands.{Stepped, Monitor, Demand2, Demand3, answers}
-use Rattle.model.specs.Laws.Itself.{turned}
-use Rattle.model.specs.Laws.Useless.{SaysOnly, AltersNothing, Mimics, no_tens, no_zeros, no_still_2, no_still_3, no_mimic}
+use Rattle.model.proofs.Laws.Itself.{turned}
+use Rattle.model.proofs.Laws.Useless.{SaysOnly, AltersNothing, Mimics, no_tens, no_zeros, no_still_2, no_still_3, no_mimic}
 
 -- tables that are the model's own state, all of them sound
 abbrev over : (State → List ℕ → Turn) → Monitor

@@ -20,7 +20,7 @@ use Rattle.model.specs.Commands.{Row, command, issuer, operand, rest, fits, tabl
 use Rattle.model.specs.Demands.{full, Space}
 use Rattle.model.specs.Laws.Rows.{Each, ◌▹◌, of_every}
 use Rattle.model.specs.Laws.PlanLaws.{gives_some, checks_clear}
-use Rattle.model.specs.Laws.Conditions.{dispatch_is, retrieve_is, append_is, settle_is, step_heard, turn_is}
+use Rattle.model.proofs.Laws.Conditions.{dispatch_is, retrieve_is, append_is, settle_is, step_heard, turn_is}
 
 -- ---- checks: no space arises only from a check that gives it
 

@@ -12,8 +12,8 @@ use Rattle.model.specs.Limits.{Limits}
 use Rattle.model.specs.Interval.{Phase, Waiting, Expired, Active, Request, Interval, active, active_task, sound_phase, sound_request, running, held, sound_interval}
 use Rattle.model.specs.Handlers.{Task}
 use Rattle.model.specs.State.{State, sound}
-use Rattle.model.specs.Laws.SoundInterval.{holder}
-use Rattle.model.specs.Laws.Shift.{later_phase, later, shift_interval, shift, active_later, task_shift}
+use Rattle.model.proofs.Laws.SoundInterval.{holder}
+use Rattle.model.proofs.Laws.Shift.{later_phase, later, shift_interval, shift, active_later, task_shift}
 
 module _ (k : ℕ) (L : Limits) (i : Interval) where
   phase_shift : (b : List ℕ) (p : Phase) → sound_phase L (i.clock + k) b (later_phase k p) ≡ sound_phase L i.clock b p

@@ -8,7 +8,7 @@ use Rattle.base.specs.Laws.Tests.{and_l, and_r, and_i}
 use Rattle.base.specs.Laws.Keep.{all_imp, any_imp, first_or, length_keep, keep_drops}
 use Rattle.model.specs.Limits.{Limits, is_data}
 use Rattle.model.specs.Interval.{Request, Interval, is_due, expired, active, no_request, known_request, request_of, active_task, remove, newly, line, serves, server, sound_request, sound_interval}
-use Rattle.model.specs.Laws.SoundInterval.{view, view_request}
+use Rattle.model.proofs.Laws.SoundInterval.{view, view_request}
 
 module _ (L : Limits) (i : Interval) (s : sound_interval L i ≡ true) where
   -- of the first that passes any test

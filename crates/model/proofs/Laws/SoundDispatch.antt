@@ -14,7 +14,7 @@ use Rattle.base.specs.Laws.Counting.{has_map, map_at_names, first_named, all_at,
 use Rattle.model.specs.Limits.{Limits, some}
 use Rattle.model.specs.Plans.{Outcome, first_of, cut}
 use Rattle.model.specs.Interval.{Phase, Waiting, Expired, Active, Request, Interval, with_requests, in_phase, is_active, not_taken, expired, active, no_request, known_request, request_of, at_request, remove, line, startable, started, none_startable, dispatch, has_own, server, took_own, retrieve, sound_phase, sound_request, sound_interval}
-use Rattle.model.specs.Laws.SoundInterval.{view, in_phase_lem, put_requests, remove_sound, name_of, program_of, terminal_of, holder}
+use Rattle.model.proofs.Laws.SoundInterval.{view, in_phase_lem, put_requests, remove_sound, name_of, program_of, terminal_of, holder}
 
 -- ---- a request becomes active, or its data taken
 

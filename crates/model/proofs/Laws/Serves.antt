@@ -19,13 +19,13 @@ use Rattle.model.specs.Commands.{Answer, Turn, Row, asked, command, issuer, oper
 use Rattle.model.specs.Demands.{Monitor, Stepping, Demand2, Pair, Cramped, Serves, full}
 use Rattle.model.specs.Laws.Rows.{◌▹◌, of_every}
 use Rattle.model.specs.Laws.PlanLaws.{clears, clear_head}
-use Rattle.model.specs.Laws.Conditions.{turn_is, step_heard, step_action, Abended}
-use Rattle.model.specs.Laws.Space.{space, settle_condition}
-use Rattle.model.specs.Laws.SoundQueues.{QueuesSound, view, delete_frees}
-use Rattle.model.specs.Laws.IntervalSizes.{requests_few, known_fewer, remove_fewer}
-use Rattle.model.specs.Laws.StaysActive.{program_active, terminal_active, advance_active, start_active, ask_active, dispatch_active, cancel_active, retrieve_active}
-use Rattle.model.specs.Laws.SoundStep as whole
-use Rattle.model.specs.Laws.SoundStep.{StateSound, obeyed_sound, active_issuer}
+use Rattle.model.proofs.Laws.Conditions.{turn_is, step_heard, step_action, Abended}
+use Rattle.model.proofs.Laws.Space.{space, settle_condition}
+use Rattle.model.proofs.Laws.SoundQueues.{QueuesSound, view, delete_frees}
+use Rattle.model.proofs.Laws.IntervalSizes.{requests_few, known_fewer, remove_fewer}
+use Rattle.model.proofs.Laws.StaysActive.{program_active, terminal_active, advance_active, start_active, ask_active, dispatch_active, cancel_active, retrieve_active}
+use Rattle.model.proofs.Laws.SoundStep as whole
+use Rattle.model.proofs.Laws.SoundStep.{StateSound, obeyed_sound, active_issuer}
 
 -- ---- room, and no cramped answer
 

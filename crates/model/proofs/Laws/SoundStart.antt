@@ -15,7 +15,7 @@ use Rattle.model.specs.Limits.{Limits}
 use Rattle.model.specs.Plans.{first_of}
 use Rattle.model.specs.Interval.{Request, Interval, Asked, is_active, active, known_request, begun, accepted, none_or_known, start, sound_phase, sound_request, sound_interval}
 use Rattle.model.specs.Laws.PlanLaws.{clears}
-use Rattle.model.specs.Laws.SoundInterval.{view, put_requests, name_of, holder}
+use Rattle.model.proofs.Laws.SoundInterval.{view, put_requests, name_of, holder}
 
 -- ---- the phase of a new request
 
