@@ -9,7 +9,7 @@ use Rattle.base.specs.Laws.Keep.{all_imp, all_same}
 use Rattle.base.specs.Laws.Maps.{all_map, keep_map, map-map}
 use Rattle.model.specs.Limits.{cabinet}
 use Rattle.model.specs.Interval as model
-use Rattle.model.specs.Laws.SoundInterval.{view, unview}
+use Rattle.model.proofs.Laws.SoundInterval.{view, unview}
 use Rattle.interval.specs.declared.Phase.{Phase}
 use Rattle.interval.specs.declared.Phase.TheVariants.{Waiting, Expired, Active}
 use Rattle.interval.specs.declared.Request.{Request}

@@ -6,7 +6,7 @@ use Rattle.base.specs.Bytes.{is_bytes}
 use Rattle.model.specs.Commands.{issuer, formed, plain}
 use Rattle.model.specs.Demands.{Stepped, Monitor}
 use Rattle.model.specs.State.{empty_at}
-use Rattle.model.specs.Laws.SoundStep.{empty_sound}
+use Rattle.model.proofs.Laws.SoundStep.{empty_sound}
 use Rattle.request_rows.specs.declared.Task.{Task}
 use Rattle.request_rows.specs.declared.Task.TheVariants.{At, Nobody}
 use Rattle.turn_rules.specs.Tables.{Tables}

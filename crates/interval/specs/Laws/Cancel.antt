@@ -10,7 +10,7 @@ use Rattle.base.specs.Laws.Counting.{all_named}
 use Rattle.model.specs.Limits.{cabinet}
 use Rattle.model.specs.Plans.{Outcome, first_of, obey}
 use Rattle.model.specs.Interval as model
-use Rattle.model.specs.Laws.SoundInterval.{cancel_sound}
+use Rattle.model.proofs.Laws.SoundInterval.{cancel_sound}
 use Rattle.interval.specs.declared.Requests.{Requests}
 use Rattle.interval.specs.declared.answers.Cancelled.{Cancelled}
 use Rattle.interval.specs.Table.{live, with_live}

@@ -7,8 +7,8 @@ use Rattle.base.specs.Laws.Tests.{both, and_i}
 use Rattle.base.specs.Laws.Maps.{map-map, map_same}
 use Rattle.model.specs.Limits.{cabinet}
 use Rattle.model.specs.Interval as model
-use Rattle.model.specs.Laws.Shift.{later_phase, later, shift_interval}
-use Rattle.model.specs.Laws.SoundShift.{interval_shift}
+use Rattle.model.proofs.Laws.Shift.{later_phase, later, shift_interval}
+use Rattle.model.proofs.Laws.SoundShift.{interval_shift}
 use Rattle.interval.specs.declared.Phase.{Phase}
 use Rattle.interval.specs.declared.Phase.TheVariants.{Waiting, Expired, Active}
 use Rattle.interval.specs.declared.Request.{Request}

@@ -9,7 +9,7 @@ use Rattle.base.specs.Laws.Over.{take_over, over_put}
 use Rattle.model.specs.Limits.{cabinet}
 use Rattle.model.specs.Plans.{Outcome, Plan, first_of, obey}
 use Rattle.model.specs.Interval as model
-use Rattle.model.specs.Laws.SoundInterval.{program_sound, terminal_sound}
+use Rattle.model.proofs.Laws.SoundInterval.{program_sound, terminal_sound}
 use Rattle.interval.specs.declared.Requests.{Requests}
 use Rattle.interval.specs.declared.answers.Define.{Define}
 use Rattle.interval.specs.declared.answers.Define.TheVariants as answers

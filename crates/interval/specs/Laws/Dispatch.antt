@@ -12,7 +12,7 @@ use Rattle.base.specs.Laws.Counting.{has_map}
 use Rattle.model.specs.Limits.{cabinet}
 use Rattle.model.specs.Plans.{Outcome, first_of, obey}
 use Rattle.model.specs.Interval as model
-use Rattle.model.specs.Laws.SoundDispatch.{dispatch_sound}
+use Rattle.model.proofs.Laws.SoundDispatch.{dispatch_sound}
 use Rattle.interval.specs.declared.Request.{Request}
 use Rattle.interval.specs.declared.Requests.{Requests}
 use Rattle.interval.specs.declared.Phase.TheVariants.{Active}

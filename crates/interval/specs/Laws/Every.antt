@@ -11,7 +11,7 @@ use Rattle.base.specs.Laws.Maps.{map-map, map_id, map_all_same, all_map_imp}
 use Rattle.base.specs.Laws.Over.{take_over, length_over, all_over}
 use Rattle.model.specs.Limits.{cabinet}
 use Rattle.model.specs.Interval as model
-use Rattle.model.specs.Laws.SoundInterval.{IntervalSound, view, view_request}
+use Rattle.model.proofs.Laws.SoundInterval.{IntervalSound, view, view_request}
 use Rattle.interval.specs.declared.Phase.{Phase}
 use Rattle.interval.specs.declared.Phase.TheVariants.{Waiting, Expired, Active}
 use Rattle.interval.specs.declared.Request.{Request}

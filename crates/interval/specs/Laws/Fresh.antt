@@ -3,7 +3,7 @@ use Rattle.std.specs.Prelude.{◌≡◌, ℕ, true, [], replicate, refl}
 use Rattle.std.proofs.Common.{ap}
 use Rattle.model.specs.Limits.{cabinet}
 use Rattle.model.specs.Interval as model
-use Rattle.model.specs.Laws.SoundInterval.{idle_sound, ask_sound}
+use Rattle.model.proofs.Laws.SoundInterval.{idle_sound, ask_sound}
 use Rattle.interval.specs.declared.Request.{Request}
 use Rattle.interval.specs.declared.Requests.{Requests}
 use Rattle.interval.specs.Stands.{interval_at, Means, sound_r, Done}

@@ -10,7 +10,7 @@ use Rattle.base.specs.Laws.Tests.{and_l, and_r}
 use Rattle.model.specs.Limits.{cabinet}
 use Rattle.model.specs.Plans.{Outcome, Plan, first_of, obey, outcome_in, plan_in}
 use Rattle.model.specs.Interval as model
-use Rattle.model.specs.Laws.Shift.{shift_interval, remove_shift, program_shift, terminal_shift, advance_shift, dispatch_shift, start_shift, cancel_shift, retrieve_shift}
+use Rattle.model.proofs.Laws.Shift.{shift_interval, remove_shift, program_shift, terminal_shift, advance_shift, dispatch_shift, start_shift, cancel_shift, retrieve_shift}
 use Rattle.interval.specs.Fresh.{fresh_at}
 use Rattle.interval.specs.Runs.{Ask, Program, Terminal, Advance, AskTicks, Dispatch, Start, Cancel, Retrieve, Remove, in_range, model_turn, Said, said, outcomes, model_outcomes, asks_ticks, retick, reticked}
 use Rattle.interval.specs.Laws.Runs.{runs_fresh}

@@ -9,7 +9,7 @@ use Rattle.base.specs.Laws.Maps.{keep_map}
 use Rattle.base.specs.Laws.Index.{cut_by_name}
 use Rattle.model.specs.Limits.{cabinet}
 use Rattle.model.specs.Interval as model
-use Rattle.model.specs.Laws.SoundInterval.{remove_sound}
+use Rattle.model.proofs.Laws.SoundInterval.{remove_sound}
 use Rattle.interval.specs.declared.Request.{Request}
 use Rattle.interval.specs.declared.Requests.{Requests}
 use Rattle.interval.specs.Table.{live, with_live}

@@ -9,7 +9,7 @@ use Rattle.base.specs.Laws.Scans.{take_least}
 use Rattle.model.specs.Limits.{cabinet}
 use Rattle.model.specs.Plans.{Outcome, first_of, obey, cut}
 use Rattle.model.specs.Interval as model
-use Rattle.model.specs.Laws.SoundDispatch.{retrieve_sound}
+use Rattle.model.proofs.Laws.SoundDispatch.{retrieve_sound}
 use Rattle.interval.specs.declared.Phase.TheVariants.{Active}
 use Rattle.interval.specs.declared.Request.{Request}
 use Rattle.interval.specs.declared.Requests.{Requests}

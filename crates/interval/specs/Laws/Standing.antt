@@ -16,7 +16,7 @@ use Rattle.base.specs.Laws.Index.{set_by_name}
 use Rattle.base.specs.Laws.Seeking.{there, nowhere}
 use Rattle.model.specs.Limits.{cabinet}
 use Rattle.model.specs.Interval as model
-use Rattle.model.specs.Laws.SoundInterval.{view}
+use Rattle.model.proofs.Laws.SoundInterval.{view}
 use Rattle.interval.specs.declared.Phase.{Phase}
 use Rattle.interval.specs.declared.Phase.TheVariants.{Waiting, Expired, Active}
 use Rattle.interval.specs.declared.Request.{Request}

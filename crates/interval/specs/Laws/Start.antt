@@ -15,7 +15,7 @@ use Rattle.model.specs.Limits.{cabinet}
 use Rattle.model.specs.Plans.{Outcome, first_of, obey, check, done, invalid_request, wrong_length, unknown_program, unknown_terminal, not_unique, no_space}
 use Rattle.model.specs.Interval as model
 use Rattle.base.specs.Laws.Tests.{or_false_r}
-use Rattle.model.specs.Laws.SoundStart.{start_sound}
+use Rattle.model.proofs.Laws.SoundStart.{start_sound}
 use Rattle.interval.specs.declared.Phase.TheVariants.{Waiting}
 use Rattle.interval.specs.declared.Request.{Request}
 use Rattle.interval.specs.declared.Requests.{Requests}

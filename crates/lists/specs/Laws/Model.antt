@@ -10,8 +10,8 @@ use Rattle.model.specs.State.{State, empty_at}
 use Rattle.model.specs.Commands.{Answer, Turn, step}
 use Rattle.model.specs.Demands.{are_bytes, ListDemands}
 use Rattle.model.specs.Lists.{Framed, bad, good, framed, Ran, refusal, answered, answers_from, ran, run}
-use Rattle.model.specs.Laws.Conditions.{turn_is, fine_heard}
-use Rattle.model.specs.Laws.Entry.{value_fits, framed_bytes, entry_meets}
+use Rattle.model.proofs.Laws.Conditions.{turn_is, fine_heard}
+use Rattle.model.proofs.Laws.Entry.{value_fits, framed_bytes, entry_meets}
 use Rattle.interval.specs.Fresh.{fresh_at}
 use Rattle.interval.specs.Stands.{Means}
 use Rattle.monitor.specs.Step.{step_on}

@@ -15,7 +15,7 @@ use Rattle.model.specs.Interval as model-interval
 use Rattle.model.specs.Queues as model-queues
 use Rattle.model.specs.Handlers as model-handlers
 use Rattle.model.specs.Laws.Rows.{of_every, ◌▹◌}
-use Rattle.model.specs.Laws.SoundStep.{active_issuer}
+use Rattle.model.proofs.Laws.SoundStep.{active_issuer}
 use Rattle.interval.specs.Stands.{interval_at, Means, sound_r}
 use Rattle.interval.specs.Runs as interval
 use Rattle.interval.specs.Laws.Clock.{sound_view}

@@ -11,14 +11,14 @@ use Rattle.model.specs.Plans.{normal}
 use Rattle.model.specs.Commands.{Answer, formed, allowed, plain, step}
 use Rattle.model.specs.State.{State, empty_at, sound}
 use Rattle.model.specs.Demands.{Stepped, Heard, Kept, Proper, Space, Stepping, Demand1, Demand2, Demand3, Serves, Moved}
-use Rattle.model.specs.Laws.Generic as generic
-use Rattle.model.specs.Laws.Moved as generic-moved
-use Rattle.model.specs.Laws.Serves as generic-serves
-use Rattle.model.specs.Laws.Itself.{cabinet_fits}
-use Rattle.model.specs.Laws.Space.{space}
-use Rattle.model.specs.Laws.SoundStep.{empty_sound, view}
-use Rattle.model.specs.Laws.Conditions.{fine_heard}
-use Rattle.model.specs.Laws.Written.{step_proper, proper_plain}
+use Rattle.model.proofs.Laws.Generic as generic
+use Rattle.model.proofs.Laws.Moved as generic-moved
+use Rattle.model.proofs.Laws.Serves as generic-serves
+use Rattle.model.proofs.Laws.Itself.{cabinet_fits}
+use Rattle.model.proofs.Laws.Space.{space}
+use Rattle.model.proofs.Laws.SoundStep.{empty_sound, view}
+use Rattle.model.proofs.Laws.Conditions.{fine_heard}
+use Rattle.model.proofs.Laws.Written.{step_proper, proper_plain}
 use Rattle.interval.specs.Fresh.{fresh_at}
 use Rattle.interval.specs.Stands.{interval_at}
 use Rattle.monitor.specs.declared.Tables.{Tables}

@@ -12,9 +12,9 @@ use Rattle.model.specs.Interval.{Request, Interval, active, active_task, sound_r
 use Rattle.model.specs.Handlers.{Task}
 use Rattle.model.specs.Queues.{Queue}
 use Rattle.model.specs.State.{State, sound}
-use Rattle.model.specs.Laws.SoundInterval.{view, view_request}
-use Rattle.model.specs.Laws.SoundStep as model
-use Rattle.model.specs.Laws.SoundTasks.{view_tasks}
+use Rattle.model.proofs.Laws.SoundInterval.{view, view_request}
+use Rattle.model.proofs.Laws.SoundStep as model
+use Rattle.model.proofs.Laws.SoundTasks.{view_tasks}
 use Rattle.interval.specs.Laws.Every as requests
 use Rattle.interval.specs.Stands.{Means}
 use Rattle.queues.specs.Laws.Every as queues

@@ -10,7 +10,7 @@ use Rattle.base.specs.Laws.Counting.{has_map, pigeon}
 use Rattle.model.specs.Limits.{cabinet}
 use Rattle.model.specs.Interval.{Request, Interval, active, active_task, running, sound_request, sound_interval}
 use Rattle.model.specs.Handlers.{Task}
-use Rattle.model.specs.Laws.SoundInterval.{view, view_request}
+use Rattle.model.proofs.Laws.SoundInterval.{view, view_request}
 use Rattle.handlers.specs.Table.{sound_h, tasks_of}
 use Rattle.handlers.specs.Set.{room}
 use Rattle.handlers.specs.Laws.Standing.{room_within}

@@ -14,8 +14,8 @@ use Rattle.model.specs.Commands.{Turn, issuer, formed, allowed, obeyed, settled,
 use Rattle.model.specs.Handlers.{decides}
 use Rattle.model.specs.State.{State, sound}
 use Rattle.model.specs.Demands.{Stepped, Named, nothing, makes, moves, takes, removes}
-use Rattle.model.specs.Laws.Conditions.{heard_kept}
-use Rattle.model.specs.Laws.SoundStep as model
+use Rattle.model.proofs.Laws.Conditions.{heard_kept}
+use Rattle.model.proofs.Laws.SoundStep as model
 use Rattle.interval.specs.Stands.{Means}
 use Rattle.interval.specs.Laws.Clock.{sound_view}
 use Rattle.queues.specs.Laws.Stands as queues

@@ -15,7 +15,7 @@ use Rattle.base.specs.Laws.Maps.{map-map, map-append, map_same, map_all_same, ke
 use Rattle.base.specs.Laws.Over.{take_over}
 use Rattle.model.specs.Plans.{invalid_request, fault, done, outcome_in, Follows}
 use Rattle.model.specs.Interval as model
-use Rattle.model.specs.Laws.SoundAdvance.{advance_sound}
+use Rattle.model.proofs.Laws.SoundAdvance.{advance_sound}
 use Rattle.request_rows.specs.declared.Phase.{Phase}
 use Rattle.request_rows.specs.declared.Phase.TheVariants.{Waiting, Expired, Active}
 use Rattle.request_rows.specs.Circle.{after, to_go}

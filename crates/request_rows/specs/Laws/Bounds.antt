@@ -7,7 +7,7 @@ use Rattle.base.specs.Bytes.{is_name}
 use Rattle.base.specs.Laws.Keep.{all_same}
 use Rattle.model.specs.Limits.{Limits, sized, is_data}
 use Rattle.model.specs.Interval.{Phase, Waiting, Expired, Active, Request, Interval, none_or_known, sound_phase, sound_request, sound_interval}
-use Rattle.model.specs.Laws.SoundInterval.{view}
+use Rattle.model.proofs.Laws.SoundInterval.{view}
 use Rattle.request_rows.specs.Table.{live}
 use Rattle.request_rows.specs.Stands.{Memory, limits_of, interval_at, Fine}
 use Rattle.request_rows.specs.Laws.Ties.{sound_here}

@@ -7,8 +7,8 @@ use mathlib.Core.List.{List, map}
 use Rattle.base.specs.Laws.Maps.{map-map, map_same}
 use Rattle.model.specs.Limits.{Limits}
 use Rattle.model.specs.Interval as model
-use Rattle.model.specs.Laws.Shift.{later_phase, later, shift_interval}
-use Rattle.model.specs.Laws.SoundShift.{interval_shift}
+use Rattle.model.proofs.Laws.Shift.{later_phase, later, shift_interval}
+use Rattle.model.proofs.Laws.SoundShift.{interval_shift}
 use Rattle.request_rows.specs.declared.Phase.{Phase}
 use Rattle.request_rows.specs.declared.Phase.TheVariants.{Waiting, Expired, Active}
 use Rattle.request_rows.specs.Circle.{to_go}

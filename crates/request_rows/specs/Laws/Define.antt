@@ -10,7 +10,7 @@ use Rattle.model.specs.Limits.{sized}
 use Rattle.model.specs.Plans.{Check, check, done, outcome_in, Follows, invalid_request, not_unique, no_space}
 use Rattle.model.specs.Interval as model
 use Rattle.model.specs.Laws.PlanLaws.{Clear}
-use Rattle.model.specs.Laws.SoundInterval.{program_sound, terminal_sound}
+use Rattle.model.proofs.Laws.SoundInterval.{program_sound, terminal_sound}
 use Rattle.names.specs.Names.{Names, names_in, with_names, define_in}
 use Rattle.request_rows.specs.Table.{spaces}
 use Rattle.request_rows.specs.Stands.{Memory, with_programs, with_terminals, limits_of, interval_at, Fine}

@@ -13,7 +13,7 @@ use Rattle.base.specs.Laws.Keep.{length_keep, any_keep, any_same, first_in, firs
 use Rattle.base.specs.Laws.Maps.{any_map, keep_map, first_map, first_at_map, map_take}
 use Rattle.model.specs.Plans.{normal, Outcome, outcome_in, Follows}
 use Rattle.model.specs.Interval as model
-use Rattle.model.specs.Laws.SoundDispatch.{dispatch_sound}
+use Rattle.model.proofs.Laws.SoundDispatch.{dispatch_sound}
 use Rattle.request_rows.specs.Rows.{Row, no_row, phase_of, program_of, terminal_of, expired, active}
 use Rattle.request_rows.specs.Table.{Requests, register_of, live}
 use Rattle.request_rows.specs.declared.Phase.TheVariants.{Active}

@@ -15,7 +15,7 @@ use Rattle.base.specs.Laws.Maps.{all_map}
 use Rattle.base.specs.Laws.Over.{take_over, length_over, all_over}
 use Rattle.model.specs.Limits.{Limits, sized}
 use Rattle.model.specs.Interval as model
-use Rattle.model.specs.Laws.SoundInterval.{IntervalSound, view, view_request}
+use Rattle.model.proofs.Laws.SoundInterval.{IntervalSound, view, view_request}
 use Rattle.request_rows.specs.Circle.{to_go}
 use Rattle.request_rows.specs.Rows.{Row, no_row, slot_of}
 use Rattle.request_rows.specs.Table.{register_of, live, slots_in}

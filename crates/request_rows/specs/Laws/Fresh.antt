@@ -6,7 +6,7 @@ use native.Mathlib.Omega.{arith}
 use Rattle.std.proofs.Math.ListN.{get_or, length-set}
 use Rattle.std.proofs.Math.Seq.{get_or-set_same}
 use Rattle.model.specs.Interval as model
-use Rattle.model.specs.Laws.SoundInterval.{idle_sound}
+use Rattle.model.proofs.Laws.SoundInterval.{idle_sound}
 use Rattle.names.specs.Names.{fresh_of}
 use Rattle.request_rows.specs.Fresh.{fresh_at}
 use Rattle.request_rows.specs.Stands.{Memory, memory, limits_of, interval_at, Fine}

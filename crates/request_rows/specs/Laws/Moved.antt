@@ -11,7 +11,7 @@ use Rattle.base.specs.Laws.Tests.{and_l, and_r, pick_map}
 use Rattle.model.specs.Limits.{Limits}
 use Rattle.model.specs.Plans.{Outcome, Plan, fault, done, first_of, obey, outcome_in, plan_in}
 use Rattle.model.specs.Interval as model
-use Rattle.model.specs.Laws.Shift.{shift_interval, task_shift, remove_shift, program_shift, terminal_shift, advance_shift, dispatch_shift, start_shift, cancel_shift, retrieve_shift}
+use Rattle.model.proofs.Laws.Shift.{shift_interval, task_shift, remove_shift, program_shift, terminal_shift, advance_shift, dispatch_shift, start_shift, cancel_shift, retrieve_shift}
 use Rattle.request_rows.specs.Runs.{Ask, Program, Terminal, Advance, AskTicks, Dispatch, Start, Cancel, Retrieve, Remove, in_range, unknown_issuer, obeyed, model_turn, Heard, heard, outcomes, model_outcomes, asks_ticks, retick, reticked}
 use Rattle.request_rows.specs.Stands.{Memory, limits_of}
 use Rattle.request_rows.specs.Typed.{Typed}

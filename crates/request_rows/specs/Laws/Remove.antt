@@ -11,7 +11,7 @@ use Rattle.base.specs.Laws.Keep.{all_none, keep_all, first_at_lt, first_at_none,
 use Rattle.base.specs.Laws.Maps.{keep_map}
 use Rattle.base.specs.Laws.Index.{cut_by_name}
 use Rattle.model.specs.Interval as model
-use Rattle.model.specs.Laws.SoundInterval.{remove_sound}
+use Rattle.model.proofs.Laws.SoundInterval.{remove_sound}
 use Rattle.request_rows.specs.declared.Task.TheVariants.{At}
 use Rattle.request_rows.specs.Rows.{Row, no_row, named}
 use Rattle.request_rows.specs.Table.{Requests, live, with_live}

@@ -10,7 +10,7 @@ use Rattle.base.specs.Laws.Maps.{any_map, first_map}
 use Rattle.base.specs.Laws.Counting.{first_named}
 use Rattle.model.specs.Plans.{end_of_data, Outcome, fault, cut, outcome_in, Follows}
 use Rattle.model.specs.Interval as model
-use Rattle.model.specs.Laws.SoundDispatch.{retrieve_sound}
+use Rattle.model.proofs.Laws.SoundDispatch.{retrieve_sound}
 use Rattle.request_rows.specs.declared.Phase.TheVariants.{Active}
 use Rattle.request_rows.specs.declared.Task.TheVariants.{At}
 use Rattle.request_rows.specs.Rows.{Row, no_row, phase_of, program_of, terminal_of, in_phase, data_of, named}

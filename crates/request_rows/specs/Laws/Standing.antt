@@ -17,7 +17,7 @@ use Rattle.base.specs.Laws.Over.{take_over, length_over}
 use Rattle.base.specs.Laws.Index.{cut_by_name, set_by_name}
 use Rattle.model.specs.Limits.{sized}
 use Rattle.model.specs.Interval as model
-use Rattle.model.specs.Laws.SoundInterval.{view}
+use Rattle.model.proofs.Laws.SoundInterval.{view}
 use Rattle.request_rows.specs.declared.Phase.{Phase}
 use Rattle.request_rows.specs.declared.Phase.TheVariants.{Waiting, Expired, Active}
 use Rattle.request_rows.specs.Rows.{Row, no_row, phase_of, phase_word, is_expired, is_active, not_taken, in_phase, slot_of, named}

@@ -18,7 +18,7 @@ use Rattle.base.specs.Laws.Stored.{length_stored}
 use Rattle.model.specs.Plans.{Check, check, done, outcome_in, Follows, invalid_request, wrong_length, unknown_program, unknown_terminal, not_unique, no_space}
 use Rattle.model.specs.Interval as model
 use Rattle.model.specs.Laws.PlanLaws.{Clear}
-use Rattle.model.specs.Laws.SoundStart.{start_sound}
+use Rattle.model.proofs.Laws.SoundStart.{start_sound}
 use Rattle.names.specs.Names.{names_in}
 use Rattle.request_rows.specs.Rows.{Row, phase_of, program_of, terminal_of, len_of, slot_of, data_of, named}
 use Rattle.request_rows.specs.Table.{register_of, live, with_live, slots_in, spaces}

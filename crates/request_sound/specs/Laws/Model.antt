@@ -11,7 +11,7 @@ use Rattle.base.specs.Laws.Tests.{both, and_l, and_r, and_i}
 use Rattle.base.specs.Laws.Keep.{all_imp}
 use Rattle.base.specs.Laws.Maps.{all_map, keep_map, map-map}
 use Rattle.model.specs.Interval as model
-use Rattle.model.specs.Laws.SoundInterval.{NamesSound}
+use Rattle.model.proofs.Laws.SoundInterval.{NamesSound}
 use Rattle.names.specs.Names.{Names, names_in, sound_names}
 use Rattle.request_rows.specs.Rows.{Row, phase_of, active, terminal_of, slot_of}
 use Rattle.request_rows.specs.Table.{register_of, live, slots_in, spaces}

@@ -7,7 +7,7 @@ use borrow.Author.Tests.{leb-true, le-leb, eqb-true, eq-eqb}
 use Rattle.base.specs.Lists.{all, once}
 use Rattle.base.specs.Bytes.{is_bytes}
 use Rattle.base.specs.Laws.Tests.{both, bool_ext, and_i}
-use Rattle.model.specs.Laws.SoundInterval.{view, unview}
+use Rattle.model.proofs.Laws.SoundInterval.{view, unview}
 use Rattle.names.specs.Names.{Names, sound_names}
 use Rattle.request_rows.specs.Table.{view_of, register_of, live, slots_in}
 use Rattle.request_rows.specs.Stands.{Memory, memory, limits_of, interval_at, Means, sound_r}

@@ -11,12 +11,12 @@ use Rattle.model.specs.Plans.{normal}
 use Rattle.model.specs.Commands.{Answer, issuer, formed, allowed, plain, step}
 use Rattle.model.specs.State.{State, empty_at, sound}
 use Rattle.model.specs.Demands.{Stepped, Heard, Kept, Proper, Space, Demand1, Demand2, Demand3, Serves, Moved}
-use Rattle.model.specs.Laws.Generic as generic
-use Rattle.model.specs.Laws.Moved as generic-moved
-use Rattle.model.specs.Laws.Serves as generic-serves
-use Rattle.model.specs.Laws.Space.{space}
-use Rattle.model.specs.Laws.Conditions.{fine_heard}
-use Rattle.model.specs.Laws.Written.{step_proper, proper_plain}
+use Rattle.model.proofs.Laws.Generic as generic
+use Rattle.model.proofs.Laws.Moved as generic-moved
+use Rattle.model.proofs.Laws.Serves as generic-serves
+use Rattle.model.proofs.Laws.Space.{space}
+use Rattle.model.proofs.Laws.Conditions.{fine_heard}
+use Rattle.model.proofs.Laws.Written.{step_proper, proper_plain}
 use Rattle.request_rows.specs.Table.{register_of}
 use Rattle.request_rows.specs.Stands.{interval_at}
 use Rattle.turn_rules.specs.Tables.{Tables}

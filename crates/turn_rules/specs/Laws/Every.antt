@@ -12,9 +12,9 @@ use Rattle.model.specs.Interval.{Request, Interval, active, active_task, sound_r
 use Rattle.model.specs.Queues.{Queue}
 use Rattle.model.specs.Handlers.{Task}
 use Rattle.model.specs.State.{State, sound}
-use Rattle.model.specs.Laws.SoundInterval.{view, view_request}
-use Rattle.model.specs.Laws.SoundStep as model
-use Rattle.model.specs.Laws.SoundTasks.{view_tasks}
+use Rattle.model.proofs.Laws.SoundInterval.{view, view_request}
+use Rattle.model.proofs.Laws.SoundStep as model
+use Rattle.model.proofs.Laws.SoundTasks.{view_tasks}
 use Rattle.request_rows.specs.Stands.{Means}
 use Rattle.request_rows.specs.Laws.Made.{memory_for}
 use Rattle.request_rows.specs.Laws.Every as requests

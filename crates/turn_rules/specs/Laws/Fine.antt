@@ -10,7 +10,7 @@ use Rattle.model.specs.State.{State, sound}
 use Rattle.model.specs.Interval.{active_task}
 use Rattle.model.specs.Queues.{sound_queues}
 use Rattle.model.specs.Handlers.{Task}
-use Rattle.model.specs.Laws.SoundStep as model
+use Rattle.model.proofs.Laws.SoundStep as model
 use Rattle.request_rows.specs.Table.{register_of}
 use Rattle.request_rows.specs.Active.{active_in}
 use Rattle.request_rows.specs.Stands as requests

@@ -10,7 +10,7 @@ use Rattle.base.specs.Laws.Counting.{has_map, pigeon}
 use Rattle.model.specs.Limits.{Limits}
 use Rattle.model.specs.Interval.{Request, Interval, active, active_task, running, sound_request, sound_interval}
 use Rattle.model.specs.Handlers.{Task}
-use Rattle.model.specs.Laws.SoundInterval.{view, view_request}
+use Rattle.model.proofs.Laws.SoundInterval.{view, view_request}
 use Rattle.settings.specs.Table.{Tasks, tasks_of, sound_h, rows_in}
 use Rattle.settings.specs.Set.{room}
 use Rattle.settings.specs.Laws.Standing.{room_within}

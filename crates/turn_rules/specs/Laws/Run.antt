@@ -13,8 +13,8 @@ use Rattle.model.specs.Commands.{Answer, Turn, step}
 use Rattle.model.specs.State.{State, empty_at}
 use Rattle.model.specs.Lists.{answers_from, state_after}
 use Rattle.model.specs.Demands.{answers, are_bytes}
-use Rattle.model.specs.Laws.Conditions.{turn_is, fine_heard}
-use Rattle.model.specs.Laws.Generic as generic
+use Rattle.model.proofs.Laws.Conditions.{turn_is, fine_heard}
+use Rattle.model.proofs.Laws.Generic as generic
 use Rattle.request_rows.specs.Table.{register_of}
 use Rattle.turn_rules.specs.Tables.{Tables}
 use Rattle.turn_rules.specs.Turn.{turn_of}

@@ -13,8 +13,8 @@ use Rattle.model.specs.Commands.{Turn, command, issuer, row_of, formed, allowed,
 use Rattle.model.specs.Handlers.{decides}
 use Rattle.model.specs.State.{State}
 use Rattle.model.specs.Demands.{Stepped, Named, nothing, makes, moves, takes, removes}
-use Rattle.model.specs.Laws.Conditions.{heard_kept}
-use Rattle.model.specs.Laws.SoundStep as model
+use Rattle.model.proofs.Laws.Conditions.{heard_kept}
+use Rattle.model.proofs.Laws.SoundStep as model
 use Rattle.records.specs.Rows.{part_of}
 use Rattle.request_rows.specs.Table.{register_of}
 use Rattle.request_rows.specs.Remove.{remove_in}
