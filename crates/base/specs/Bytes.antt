@@ -1,5 +1,5 @@
 -- Numbers from bytes and bytes from numbers, big end first, of any width; names; and bytes stored among bytes.
-use Rattle.std.specs.Prelude.{ℕ, suc, zero, ◌+◌, ◌*◌, ◌/◌, ◌%◌, ◌^◌, Bool, true, false, not, ◌&&◌, List, [], ◌∷◌, ◌++◌, length, take, drop, replicate, leb, ltb, eqb}
+use Rattle.std.specs.Prelude.{ℕ, suc, zero, ◌+◌, ◌*◌, ◌/◌, ◌%◌, ◌^◌, Bool, not, ◌&&◌, List, [], ◌∷◌, ◌++◌, length, take, drop, replicate, leb, ltb, eqb}
 use Rattle.std.proofs.Math.Seq.{paste}
 use Rattle.base.specs.Choice.{pick}
 use Rattle.base.specs.Lists.{all}

@@ -1,10 +1,10 @@
 -- One record: what it must look like, who may send it, the table of commands, and what the handlers make of its condition.
 -- (Document 01, "Commands and what each checks, in order".)
-use Rattle.std.specs.Prelude.{ℕ, suc, zero, ◌+◌, ◌-◌, Bool, true, false, not, ◌&&◌, ◌||◌, List, [], ◌∷◌, length, drop, get_or, leb, eqb}
+use Rattle.std.specs.Prelude.{ℕ, suc, zero, ◌+◌, ◌-◌, Bool, false, not, ◌&&◌, ◌||◌, List, [], ◌∷◌, length, drop, get_or, leb, eqb}
 use Rattle.base.specs.Choice.{pick}
 use Rattle.base.specs.Bytes.{num, blank}
 use Rattle.model.specs.Limits.{Limits}
-use Rattle.model.specs.Plans.{normal, invalid_request, Check, check, first_of, Outcome, Plan, plan, done, obey, plan_in}
+use Rattle.model.specs.Plans.{normal, invalid_request, check, first_of, Outcome, Plan, plan, done, obey, plan_in}
 use Rattle.model.specs.Queues.{Queue, append, read_next, read_at, rewrite, delete}
 use Rattle.model.specs.Interval.{Interval, Asked, active_task, define_program, define_terminal, advance, ask_ticks, dispatch, start, cancel, retrieve}
 use Rattle.model.specs.Handlers.{Setting, Unset, Ignore, Label, Task, decides, handle, ignore, reset}

@@ -1,5 +1,5 @@
 -- What the user demands, as predicates over any monitor and over any list entry.
-use Rattle.std.specs.Prelude.{ℕ, suc, zero, ◌+◌, ◌*◌, ◌-◌, ◌%◌, ◌^◌, ◌<◌, ◌≤◌, ◌≡◌, ◌⊎◌, Bool, true, false, not, ◌&&◌, ◌||◌, List, [], ◌∷◌, ◌++◌, length, leb, eqb}
+use Rattle.std.specs.Prelude.{ℕ, ◌+◌, ◌*◌, ◌-◌, ◌%◌, ◌^◌, ◌<◌, ◌≤◌, ◌≡◌, ◌⊎◌, Bool, true, false, not, ◌&&◌, ◌||◌, List, [], ◌∷◌, length, leb, eqb}
 use Rattle.base.specs.Choice.{pick}
 use Rattle.base.specs.Lists.{all}
 use Rattle.base.specs.Bytes.{is_bytes}
@@ -9,7 +9,7 @@ use Rattle.model.specs.Queues.{queue_of, known_queue, items_in, at_queue, point_
 use Rattle.model.specs.Interval.{request_of, server, took_own, remove}
 use Rattle.model.specs.State.{State, empty_at, with_interval, with_queues, without_task, sound}
 use Rattle.model.specs.Commands.{Answer, command, issuer, operand, formed, allowed, plain, step}
-use Rattle.model.specs.Lists.{Framed, bad, good, framed, Ran, refusal, answered, answers_from}
+use Rattle.model.specs.Lists.{bad, good, framed, Ran, refusal, answered, answers_from}
 
 pub record Stepped (T : Type 0) : Type 0 where
   pub answer : Answer

@@ -4,10 +4,10 @@ use Rattle.std.specs.Prelude.{ℕ, suc, zero, ◌+◌, ◌-◌, ◌*◌, ◌≡�
 use Rattle.base.specs.Bytes.{num_from, bytes_of}
 use Rattle.model.specs.Limits.{cabinet}
 use Rattle.model.specs.Queues.{Queue, append, read_next, read_at, rewrite, delete, sound_queues}
-use Rattle.model.specs.Interval.{Phase, Waiting, Expired, Active, Request, Interval, define_program, define_terminal, advance, ask_ticks, dispatch, start, cancel, retrieve, sound_interval}
+use Rattle.model.specs.Interval.{Phase, Waiting, Expired, Active, Request, define_program, define_terminal, advance, ask_ticks, dispatch, start, cancel, retrieve, sound_interval}
 use Rattle.model.specs.Handlers.{Setting, Unset, Ignore, Label, Task, handle, ignore, reset, sound_tasks}
 use Rattle.model.specs.State.{State, empty_at, sound}
-use Rattle.model.specs.Commands.{Answer, Turn, plain, formed, allowed, obeyed, step, step_any}
+use Rattle.model.specs.Commands.{Answer, plain, formed, allowed, obeyed, step, step_any}
 use Rattle.model.specs.Lists.{framed, answers_from, state_after, Ran, answered, run}
 use Rattle.model.specs.Examples.{system, none, long, short, by, defines, ticks, asks, dispatches, starts, appends, next_of, item_of, list_of, ans, ok, gives, Case}
 

@@ -1,5 +1,5 @@
 -- Condition handling (document 01, "Handler rules"; 000, "Exceptional conditions"). It knows a task by its name alone.
-use Rattle.std.specs.Prelude.{ℕ, suc, ◌+◌, ◌^◌, Bool, true, false, not, ◌&&◌, ◌||◌, List, [], ◌∷◌, ◌++◌, map, length, get_or, set, replicate, leb, ltb, eqb}
+use Rattle.std.specs.Prelude.{ℕ, suc, ◌^◌, Bool, true, not, ◌&&◌, ◌||◌, List, [], ◌∷◌, ◌++◌, map, length, get_or, set, replicate, leb, ltb, eqb}
 use Rattle.base.specs.Choice.{pick}
 use Rattle.base.specs.Lists.{keep, any, all, first, once}
 use Rattle.model.specs.Plans.{invalid_request, check, Plan, done, plan}

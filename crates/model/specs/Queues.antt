@@ -4,7 +4,7 @@ use Rattle.base.specs.Choice.{pick}
 use Rattle.base.specs.Lists.{keep, any, all, first, once}
 use Rattle.base.specs.Bytes.{blank, is_name}
 use Rattle.model.specs.Limits.{Limits, is_item, some}
-use Rattle.model.specs.Plans.{no_space, unknown_queue, no_such_item, wrong_length, invalid_request, check, Outcome, Plan, fault, done, cut, plan}
+use Rattle.model.specs.Plans.{no_space, unknown_queue, no_such_item, wrong_length, invalid_request, check, Plan, fault, done, cut, plan}
 
 -- "A queue is a row of items, places from 1, and a pointer, 0 at first" (TSQ, TSQ_Initial; the named queues are TS)
 pub record Queue : Type 0 where

@@ -2,7 +2,6 @@
 use Rattle.std.specs.Prelude.{ℕ, Bool, ◌&&◌, List, []}
 use Rattle.base.specs.Lists.{all}
 use Rattle.model.specs.Limits.{Limits}
-use Rattle.model.specs.Plans.{Plan, plan_in}
 use Rattle.model.specs.Queues.{Queue, sound_queues}
 use Rattle.model.specs.Interval.{Interval, idle_at, remove, active_task, sound_interval}
 use Rattle.model.specs.Handlers.{Task, forget, sound_tasks}

@@ -1,8 +1,8 @@
 -- What is written over the front of a list: its length, what is read in it, and one more. Assumes nothing.
 use Rattle.std.specs.Prelude.{◌≡◌, refl, Bool, true, List, [], ◌∷◌, ◌++◌, ℕ, zero, suc, ◌+◌, ◌-◌, ◌<◌, ◌≤◌, length, take, drop, get_or, set}
-use Rattle.std.proofs.Common.{sym, ap, ◌∙◌, add-one, arith, length-append, length-drop, drop-cons, get_or-append-add, get_or-drop, drop-drop, take-suc, length-take-le}
+use Rattle.std.proofs.Common.{sym, ap, ◌∙◌, add-one, arith, length-append, length-drop, drop-cons, get_or-append-add, get_or-drop, take-suc, length-take-le}
 use Rattle.std.proofs.Math.ListN.{get_or-append}
-use Rattle.std.proofs.Math.Seq.{set-append_seam, take-append_seam, drop-append_seam, drop-append-add, append_snoc}
+use Rattle.std.proofs.Math.Seq.{set-append_seam, take-append_seam, drop-append_seam, append_snoc}
 use Rattle.base.specs.Lists.{all, over}
 use Rattle.base.specs.Laws.Tests.{and_i}
 use Rattle.base.specs.Laws.Keep.{all_append, all_drop}

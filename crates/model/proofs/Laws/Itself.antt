@@ -8,7 +8,7 @@ use Rattle.base.specs.Laws.Maps.{map_id}
 use Rattle.model.specs.Limits.{Limits, Fit, cabinet}
 use Rattle.model.specs.Interval.{Phase, Waiting, Expired, Active, Request, in_phase, with_clock, with_requests}
 use Rattle.model.specs.State.{State, empty_at, with_interval, sound}
-use Rattle.model.specs.Commands.{Answer, Turn, formed, allowed, refused, step, step_any}
+use Rattle.model.specs.Commands.{Answer, Turn, allowed, refused, step, step_any}
 use Rattle.model.specs.Demands.{Stepped, Monitor, Heard, Kept, Stepping, Proper, Space, Demand1, Demand2, Demand3}
 use Rattle.model.proofs.Laws.Generic.{demand3}
 use Rattle.model.proofs.Laws.Shift.{later_phase, later, shift, state_shift, answer_same, allowed_shift}

@@ -1,7 +1,7 @@
 -- `bytes::lay` meets its contract: the bytes passed are laid over the front. Assumes nothing.
 use mathlib.Core.Path.{◌≡◌, refl, ap, ◌∙◌}
 use mathlib.Core.List.{List}
-use Prim.Native.Nat.{ℕ, ◌-◌, min}
+use Prim.Native.Nat.{ℕ, min}
 use lib.ListN.{length, take, set, get_or, length-set}
 use Rattle.base.specs.Lists.{over}
 use Rattle.base.specs.Laws.Over.{over_take}
@@ -29,6 +29,8 @@ returns c =
     let l = c.loop-i in
     let a = c.args in
     let m = c.least-n.ensures.exact in
-    let e : l.i ≡ min (length a.d.now) (length a.s.now) = omega arith in record { exact = l.invariant.1.1
-    ∙ ap (λ (n : ℕ). over (take n a.s.now) a.d.now) e
-    ∙ ap (λ (x : List ℕ). over x a.d.now) (take_least (length a.d.now) a.s.now) }
+    let e : l.i ≡ min (length a.d.now) (length a.s.now) = omega arith in record {
+      exact = l.invariant.1.1
+          ∙ ap (λ (n : ℕ). over (take n a.s.now) a.d.now) e
+          ∙ ap (λ (x : List ℕ). over x a.d.now) (take_least (length a.d.now) a.s.now);
+    }

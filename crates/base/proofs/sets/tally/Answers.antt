@@ -1,5 +1,4 @@
 -- `base::sets::tally` meets its contract: what is counted and what is left make the whole. Assumes nothing.
-use Prim.Native.Nat.{◌-◌}
 use native.Mathlib.Omega.{arith}
 use Rattle.base.specs.Laws.Scans.{copies_hit, copies_miss, copies_end}
 use Rattle.base.proofs.sets.tally.Goals as goal

@@ -1,6 +1,5 @@
 -- `base::sets::within` meets its contract: what is left is within the other list exactly if the whole is. Assumes nothing.
 use mathlib.Core.Path.{refl, sym, ◌∙◌}
-use Prim.Native.Nat.{◌-◌}
 use native.Mathlib.Omega.{arith}
 use borrow.Author.Tests.{not-true, not-false}
 use lib.ListN.{take}
@@ -14,8 +13,10 @@ loop-i-init c = (omega arith, c.least-e.ensures.exact, refl)
 pub returns-then-not-has : goal.returns-then-not-has
 returns-then-not-has c =
     let a = c.args in
-    let l = c.loop-i in record { exact = sym (all_miss a.l.now a.n l.i (λ x. has x (take a.m a.k.now)) 0 (omega arith) (omega arith) (sym c.has.ensures.exact ∙ not-true _ c.if-not-has.true-raw))
-    ∙ l.invariant.2 }
+    let l = c.loop-i in record {
+      exact = sym (all_miss a.l.now a.n l.i (λ x. has x (take a.m a.k.now)) 0 (omega arith) (omega arith) (sym c.has.ensures.exact ∙ not-true _ c.if-not-has.true-raw))
+          ∙ l.invariant.2;
+    }
 
 pub loop-i-preserved : goal.loop-i-preserved
 loop-i-preserved c =
