@@ -3,7 +3,7 @@ use mathlib.Core.Path.{◌≡◌, sym, ap₂, ◌∙◌}
 use mathlib.Core.List.{List}
 use Prim.Native.Nat.{ℕ}
 use native.Mathlib.Omega.{arith}
-use lib.ListN.{take, length-set}
+use lib.ListN.{take}
 use Rattle.base.specs.Lists.{has}
 use Rattle.queue_rows.specs.Table.{names_of}
 use Rattle.queue_rows.specs.Layout.{seen}
@@ -30,12 +30,6 @@ returns-then-count-l c =
     let a = c.args in
     row_refused (seen a.l a.queues.now) a.name (sym (known (goal.at.returns-then-count-l c).After-has) ∙ c.if-has.false)
     (omega (arith, (names_lies a.l a.queues.now c.requires).long, c.word_at-count.ensures.exact, c.if-count-l.true))
-
-pub bounds-queues-pointers : goal.bounds-queues-pointers
-bounds-queues-pointers c = simp length-set (omega arith)
-
-pub bounds-queues-0 : goal.bounds-queues-0
-bounds-queues-0 c = simp length-set (omega arith)
 
 pub returns : goal.returns
 returns c =

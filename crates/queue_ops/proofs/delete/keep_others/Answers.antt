@@ -1,10 +1,10 @@
 -- `queue_ops::delete::keep_others` meets its contract: i entries are swept, and j of them stay. Assumes nothing.
-use mathlib.Core.Path.{◌≡◌, refl, sym, ap, ◌∙◌}
+use mathlib.Core.Path.{◌≡◌, ap, ◌∙◌}
 use mathlib.Core.List.{List}
 use Prim.Native.Nat.{ℕ, ◌<◌, ◌+◌}
 use native.Mathlib.Omega.{arith}
-use lib.ListN.{length, take, drop, take-append-drop, length-take, length-drop, length-set}
-use Rattle.queue_ops.proofs.SweepLaws.{swept_none, turn_hit, turn_miss, swept_as}
+use lib.ListN.{length, take, drop, length-take, length-drop, length-set}
+use Rattle.queue_ops.proofs.SweepLaws.{turn_hit, turn_miss, swept_as}
 use Rattle.queue_ops.proofs.delete.keep_others.Goals as goal
 use Rattle.queue_ops.proofs.delete.keep_others.Goals.{else-o-name, then-o-name}
 
@@ -14,22 +14,6 @@ front_long l s e = simp length-take (omega arith)
 
 back_long : (l : List ℕ) (s : ℕ) → length l ≡ s + s → length (drop s l) ≡ s
 back_long l s e = simp length-drop (omega arith)
-
-pub loop-i-init : goal.loop-i-init
-loop-i-init c =
-    let a = c.args in
-    let l = a.entries.now in (
-      omega arith,
-      c.requires.1,
-      c.requires.0,
-      c.requires.0,
-      omega arith,
-      swept_as refl refl (sym (take-append-drop a.slots l))
-          (swept_none a.name (take a.slots l) (drop a.slots l) a.u a.slots (front_long l a.slots c.requires.0) (back_long l a.slots c.requires.0)),
-    )
-
-pub bounds-entries-slots-else-o-name : goal.bounds-entries-slots-else-o-name
-bounds-entries-slots-else-o-name c = simp length-set (omega arith)
 
 pub loop-i-preserved : goal.loop-i-preserved
 loop-i-preserved c =

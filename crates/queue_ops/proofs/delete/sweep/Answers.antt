@@ -1,8 +1,6 @@
 -- `queue_ops::delete::sweep` meets its contract. Assumes nothing.
 use mathlib.Core.Path.{◌≡◌, ap, ◌∙◌}
 use Prim.Native.Nat.{ℕ, ◌≤◌, min}
-use native.Mathlib.Omega.{arith}
-use lib.ListN.{length-set}
 use Rattle.slots.specs.Bits.{held}
 use Rattle.queue_ops.proofs.DeleteCases.{stays, freed, emptied_left}
 use Rattle.queue_ops.proofs.delete.sweep.Goals as goal
@@ -19,9 +17,6 @@ some_stay c =
     let u = c.used-u in
     stays a.l a.queues.now c.requires.0 c.requires.1 a.name c.least-n.result u.result c.keep_others-kept.result.used c.keep_others-kept.result.count c.keep_others-kept.new.entries
     u.ensures.exact (most c) c.keep_others-kept.ensures
-
-pub bounds-queues-2 : goal.bounds-queues-2
-bounds-queues-2 c = simp length-set (omega arith)
 
 pub overflow_sub-result : goal.overflow_sub-result
 overflow_sub-result c = some_stay (goal.at.overflow_sub-result c).After-keep_others-kept

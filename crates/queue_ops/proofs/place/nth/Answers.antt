@@ -1,5 +1,5 @@
 -- `queue_ops::place::nth` meets its contract: the item sought stands behind k others from entry i on. Assumes nothing.
-use mathlib.Core.Path.{refl, sym, ap, ◌∙◌}
+use mathlib.Core.Path.{sym, ap, ◌∙◌}
 use Prim.Native.Nat.{ℕ, ◌+◌}
 use native.Mathlib.Omega.{arith}
 use lib.ListN.{take, drop, get_or}
@@ -7,9 +7,6 @@ use Rattle.queue_rows.specs.Table.{slots_of}
 use Rattle.queue_ops.proofs.Seeks.{seek_here, seek_miss, seek_past, seek_end}
 use Rattle.queue_ops.proofs.place.nth.Goals as goal
 use Rattle.queue_ops.proofs.place.nth.Goals.{else-owner-i, then-owner-i+else-k-eq0}
-
-pub loop-i-init : goal.loop-i-init
-loop-i-init c = (omega arith, c.requires.0, c.requires.1, refl)
 
 pub returns-then-k-eq0 : goal.returns-then-k-eq0
 returns-then-k-eq0 c =

@@ -10,10 +10,6 @@ use Rattle.queue_rows.specs.Read.{read_in, read_next_in}
 use Rattle.queue_ops.proofs.Answers.{through}
 use Rattle.queue_ops.proofs.read.read_next.Goals as goal
 
-pub give-requires : goal.give-requires
-give-requires c =
-    (c.layout-l.ensures.laid, c.layout-l.ensures.sized.lent, c.row_of-row.ensures)
-
 pub returns : goal.returns
 unfolding read_next_in
 returns c =

@@ -2,8 +2,7 @@
 use mathlib.Core.Path.{◌≡◌, refl, sym, ◌∙◌}
 use mathlib.Core.Bool.{false, not, ◌||◌}
 use mathlib.Core.List.{List}
-use Prim.Native.Nat.{ℕ, ◌+◌, ◌*◌, ◌^◌, ◌<◌}
-use native.Mathlib.Omega.{arith}
+use Prim.Native.Nat.{ℕ, ◌+◌}
 use borrow.Author.Rules.{rules}
 use lib.Dec.{leb, ltb}
 use lib.ListN.{length, set, length-set}
@@ -16,11 +15,7 @@ use Rattle.queue_ops.proofs.Answers.{plain_said, plain_seen}
 use Rattle.queue_ops.proofs.ReadCases.{slot_before}
 use Rattle.queue_ops.proofs.RewriteCases.{rewrite_blank, rewrite_length, rewrite_unknown, missing, rewritten}
 use Rattle.queue_ops.proofs.rewrite.rewrite.Goals as goal
-use Rattle.queue_ops.proofs.rewrite.rewrite.Goals.{After-layout-l, After-slot_behind-s, Else-s-l, Start}
-
--- the words are as many as memory holds
-held : (s : Start) → length s.args.queues.now * 8 < 2 ^ 63
-held s = search rules
+use Rattle.queue_ops.proofs.rewrite.rewrite.Goals.{After-layout-l, After-slot_behind-s}
 
 -- the item's length is right
 right : (c : After-layout-l) → let n = length c.args.item.now in (not (leb 1 n) || ltb 64 n) ≡ false
@@ -34,11 +29,6 @@ there c =
     let a = c.args in
     c.slot_behind-s.ensures.exact
     ∙ slot_before c.layout-l.result a.queues.now c.layout-l.ensures.laid a.name a.place c.others_before.result c.others_before.ensures
-
--- the word of its length lies in the words
-inside : (c : Else-s-l) →
-    c.layout-l.result.len + c.slot_behind-s.result < length c.args.queues.now
-inside c = omega (arith, c.layout-l.ensures.laid.inside, c.if-s-l.false)
 
 pub returns-then-name-eq-BLANK : goal.returns-then-name-eq-BLANK
 returns-then-name-eq-BLANK c =
@@ -70,12 +60,6 @@ returns-then-s-l c =
     c.layout-l.ensures.sized refl refl c.plain-then-s-l.ensures.exact
     (missing l a.queues.now a.items.now c.layout-l.ensures.laid a.name a.place a.item.now c.if-name-eq-BLANK.false (right (goal.at.returns-then-s-l c).After-layout-l)
     (c.row_of.ensures.known c.if-row_of-l.false) c.slot_behind-s.result (there (goal.at.returns-then-s-l c).After-slot_behind-s) c.if-s-l.true) in record { exact = all.0; short = all.1 }
-
-pub overflow_add-at : goal.overflow_add-at
-overflow_add-at c = omega (arith, inside (goal.at.overflow_add-at c).Else-s-l, held (goal.at.overflow_add-at c).Start)
-
-pub offset_bounds-queues-at : goal.offset_bounds-queues-at
-offset_bounds-queues-at c = omega (arith, inside (goal.at.offset_bounds-queues-at c).Else-s-l, held (goal.at.offset_bounds-queues-at c).Start)
 
 pub returns : goal.returns
 returns c =

@@ -1,13 +1,10 @@
 -- `queue_sound::entries::lengths_sound` meets its contract. Assumes nothing.
-use mathlib.Core.Path.{◌≡◌, refl, sym, ◌∙◌}
+use mathlib.Core.Path.{◌≡◌, sym, ◌∙◌}
 use native.Mathlib.Omega.{arith}
 use lib.ListN.{get_or}
 use Rattle.base.specs.Laws.Scans.{all_hit, all_miss, all_end}
 use Rattle.queue_sound.specs.Parts.{filled}
 use Rattle.queue_sound.proofs.entries.lengths_sound.Goals as goal
-
-pub loop-i-init : goal.loop-i-init
-loop-i-init c = (omega arith, c.least-m.ensures.exact, refl)
 
 pub returns-then-not-is_filled : goal.returns-then-not-is_filled
 returns-then-not-is_filled c =

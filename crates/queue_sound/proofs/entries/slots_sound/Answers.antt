@@ -1,28 +1,15 @@
 -- `queue_sound::entries::slots_sound` meets its contract: what is left of the slots drains what is left of the bits exactly if all of them drain all.
 -- Assumes nothing.
-use mathlib.Core.Path.{◌≡◌, refl, sym, ap, ◌∙◌, subst}
-use Prim.Native.Nat.{◌<◌, ◌+◌}
+use mathlib.Core.Path.{◌≡◌, sym, ap, ◌∙◌, subst}
+use Prim.Native.Nat.{◌+◌}
 use native.Mathlib.Omega.{arith}
-use borrow.Author.Rules.{rules}
-use borrow.Author.Tests.{lt-leb}
-use lib.ListN.{length, take, drop, get_or}
+use lib.ListN.{take, drop, get_or}
 use Rattle.slots.specs.declared.Used.{Used}
 use Rattle.slots.specs.Bits.{cleared}
 use Rattle.slots.specs.Told.{Typed}
 use Rattle.slots.specs.Laws.Slots.{cleared_typed}
 use Rattle.queue_sound.proofs.Drains.{drains, drained, drain_hit, drain_miss, drain_end}
 use Rattle.queue_sound.proofs.entries.slots_sound.Goals as goal
-
-pub returns-then-n-slot : goal.returns-then-n-slot
-returns-then-n-slot c =
-    let a = c.args in
-    let h : length a.slot.now < a.n = omega arith in
-    rw (lt-leb _ _ h)
-
-pub loop-i-init : goal.loop-i-init
-loop-i-init c =
-    let y : Typed c.args.u = record { low = search rules; high = search rules } in
-    (omega arith, omega arith, y, y, refl)
 
 pub returns-then-not-is_used : goal.returns-then-not-is_used
 returns-then-not-is_used c =

@@ -1,13 +1,10 @@
 -- `queue_sound::rows::pointers_sound` meets its contract: what is left of the rows has its pointers right exactly if all rows have. Assumes nothing.
-use mathlib.Core.Path.{refl, sym, ◌∙◌}
+use mathlib.Core.Path.{sym, ◌∙◌}
 use native.Mathlib.Omega.{arith}
 use borrow.Author.Rules.{rules}
 use lib.ListN.{take}
 use Rattle.queue_sound.proofs.Pointers.{pointed_hit, pointed_miss, pointed_end}
 use Rattle.queue_sound.proofs.rows.pointers_sound.Goals as goal
-
-pub loop-i-init : goal.loop-i-init
-loop-i-init c = (omega arith, omega (arith, c.least-m.ensures.exact, c.least.ensures.exact), refl)
 
 pub returns-then-pointers-i : goal.returns-then-pointers-i
 returns-then-pointers-i c =
