@@ -108,18 +108,18 @@ module _ (n size : ℕ) (ns : List ℕ) where
     way_short h = rw (ne_eqb n (blank 8) d, lt-ltb size 1 h)
 
     module _ (low : 1 ≤ size) where
-      pub way_long : ltb 64 size ≡ true → Fault WrongLength ≡ way_of n size ns
+      pub way_long : 64 < size → Fault WrongLength ≡ way_of n size ns
       unfolding way_of
-      way_long h = rw (ne_eqb n (blank 8) d, le-ltb size 1 low, h)
+      way_long h = rw (ne_eqb n (blank 8) d, le-ltb size 1 low, lt-ltb 64 size h)
 
-      module _ (high : ltb 64 size ≡ false) (row : ℕ) (e : row ≡ first_at (λ m. eqb m n) ns) where
+      module _ (high : size ≤ 64) (row : ℕ) (e : row ≡ first_at (λ m. eqb m n) ns) where
         pub way_full : 16 ≤ row → Fault NoSpace ≡ way_of n size ns
         unfolding way_of
-        way_full h = rw (ne_eqb n (blank 8) d, le-ltb size 1 low, high, ← e, le-leb 16 row h)
+        way_full h = rw (ne_eqb n (blank 8) d, le-ltb size 1 low, le-ltb 64 size high, ← e, le-leb 16 row h)
 
         pub way_free : row < 16 → Row row ≡ way_of n size ns
         unfolding way_of
-        way_free h = rw (ne_eqb n (blank 8) d, le-ltb size 1 low, high, ← e, lt-leb 16 row h)
+        way_free h = rw (ne_eqb n (blank 8) d, le-ltb size 1 low, le-ltb 64 size high, ← e, lt-leb 16 row h)
 
 -- too short or too long, as the model asks it
 length_test : (item : List ℕ) → (not (some item) || ltb 64 (length item)) ≡ (ltb (length item) 1 || ltb 64 (length item))

@@ -41,6 +41,10 @@ and_move false false c = refl
 pub joined : (n w p o u l : Bool) → (n && w && p && (o && u) && l) ≡ (n && w && p && o && u && l)
 joined n w p o u l = ap (λ (x : Bool). x && l) (and_assoc (n && w && p) o u)
 
+-- the slot holds 1 to 64 bytes
+abbrev pub fits : List ℕ → ℕ → Bool
+fits len s = leb 1 (get_or len s 0) && leb (get_or len s 0) 64
+
 -- ---- no slot twice and each marked: each one's bit is set, and is cleared
 
 abbrev pub drains : Used → List ℕ → Bool

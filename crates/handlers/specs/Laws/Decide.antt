@@ -7,11 +7,10 @@ use Rattle.std.proofs.Math.Dec.{eqb}
 use Rattle.std.proofs.Math.ListN.{get_or-map}
 use Rattle.base.specs.Laws.Maps.{first_map}
 use Rattle.model.specs.Handlers as model
-use Rattle.model.proofs.Laws.SoundTasks.{decided_label}
+use Rattle.model.specs.Laws.SoundTasks.{decided_label}
 use Rattle.handlers.specs.declared.Setting.{Setting}
 use Rattle.handlers.specs.declared.Setting.TheVariants.{Unset, Ignore, Label}
 use Rattle.handlers.specs.declared.Cell.{Cell}
-use Rattle.handlers.specs.declared.Task.{Task}
 use Rattle.handlers.specs.declared.Tasks.{Tasks}
 use Rattle.handlers.specs.Table.{setting_of, task_of, live, tasks_of, sound_h}
 use Rattle.handlers.specs.Rows.{named, unset, unset_row, setting_at, task_in}

@@ -1,14 +1,14 @@
 -- Fresh settings are none, and sound; what the type says is so of them, and each exact definition keeps it. Assumes nothing.
-use Rattle.std.specs.Prelude.{ℕ, suc, ◌^◌, ◌<◌, ◌≤◌, ◌≡◌, Bool, true, false, ◌&&◌, ◌||◌, List, [], ◌∷◌, ◌++◌, ltb, length, take, drop, set}
+use Rattle.std.specs.Prelude.{ℕ, suc, ◌^◌, ◌<◌, ◌≤◌, ◌≡◌, Bool, true, ◌&&◌, ◌||◌, List, [], ◌∷◌, ◌++◌, ltb, length, take, drop, set}
 use Rattle.std.proofs.Math.Path.{refl}
 use Rattle.std.proofs.Common.{ap, ◌∙◌, arith, length-set, lt-ltb, ltb-true, ltb-false}
 use Rattle.std.proofs.Math.Dec.{eqb}
 use Rattle.std.proofs.Math.ListN.{length-append, length-take, length-drop}
-use Rattle.base.specs.Lists.{all, any, over, cut_at}
+use Rattle.base.specs.Lists.{all, any, cut_at}
 use Rattle.base.specs.Laws.Tests.{and_l, and_r, and_i, pick_elim}
 use Rattle.base.specs.Laws.Keep.{all_append, all_drop, all_take, all_set, first_or}
 use Rattle.base.specs.Laws.Over.{length_over}
-use Rattle.model.proofs.Laws.SoundTasks.{no_tasks_sound}
+use Rattle.model.specs.Laws.SoundTasks.{no_tasks_sound}
 use Rattle.handlers.specs.declared.Setting.{Setting}
 use Rattle.handlers.specs.declared.Setting.TheVariants.{Unset, Ignore, Label}
 use Rattle.handlers.specs.declared.Cell.{Cell}
@@ -16,7 +16,7 @@ use Rattle.handlers.specs.declared.Task.{Task}
 use Rattle.handlers.specs.declared.Tasks.{Tasks}
 use Rattle.handlers.specs.declared.answers.Handled.{Handled}
 use Rattle.handlers.specs.Table.{live, with_live, tasks_of, sound_h}
-use Rattle.handlers.specs.Rows.{named, unset_row, with_setting, place_in, task_in, with_row}
+use Rattle.handlers.specs.Rows.{named, unset_row, with_setting, place_in, task_in}
 use Rattle.handlers.specs.Fresh.{no_tasks, Fresh}
 use Rattle.handlers.specs.Set.{put_in, set_in, set_to, handle_in, ignore_in, reset_in}
 use Rattle.handlers.specs.Forget.{forget_in}

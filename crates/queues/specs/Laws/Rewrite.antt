@@ -274,7 +274,7 @@ pub rewrite_all : (q : Queues) → Typed q → (b : List ℕ) → length b ≡ 8
     → lent r b' ≡ rewrite_in q b n p item
     → (lent r b' ≡ rewrite_in q b n p item)
     × (sound_q q ≡ true → Did q b r.queues b' (rewrite cabinet (queues_of q b) n p item) (condition_of r.outcome) 0 [])
-rewrite_all q t b long n p item r b' e = (
+rewrite_all q t b long n p item r _ e = (
   e,
   λ y.
       record {

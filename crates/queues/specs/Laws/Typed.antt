@@ -1,5 +1,5 @@
 -- What the struct's type says of every value that a program holds, and what follows of the lengths of its live parts. A function has it
--- where it starts, by `search (needs, word, byte)`. Assumes nothing.
+-- where it starts, by `search (rules, word, byte)`. Assumes nothing.
 use Rattle.std.specs.Prelude.{◌≡◌, refl, true, List, [], ◌∷◌, ℕ, zero, suc, ◌^◌, ◌≤◌, ◌<◌, ltb, length, get_or, set}
 use Rattle.std.proofs.Common.{sym, ◌∙◌, arith, Fits, length-take, length-take-le, lt-ltb}
 use Rattle.std.specs.Int.{w8, w64}

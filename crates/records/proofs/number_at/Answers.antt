@@ -16,4 +16,5 @@ loop-i-preserved c =
     (search rules, rw c.wide64-b.ensures.exact (read_more c.loop-i.invariant.1 (omega arith) (omega arith)))
 
 pub returns : goal.returns
-returns c = let all = read_all c.loop-i.invariant.1 _ (omega arith) in record { exact = all.0; small = all.1 }
+returns c = let all = read_all c.loop-i.invariant.1 _ (omega arith) in
+    record { exact = all.0; small = all.1 }

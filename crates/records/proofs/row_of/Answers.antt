@@ -1,4 +1,4 @@
--- `row_of` meets its contract. An arm computes its row of the model's table; what none of them names has no row (`no-row`).
+-- `row_of` meets its contract. An arm computes its row of the model's table; what none of them names has no row (`no_row_lem`).
 -- Assumes nothing.
 use mathlib.Core.Path.{sym, ap}
 use borrow.Author.Rules.{rules}

@@ -1,6 +1,5 @@
 -- `forget::forget` meets its contract: the loop is the one of `Removing`. Assumes nothing.
 use mathlib.Core.Path.{ap₂, ◌∙◌}
-use Prim.Native.Nat.{◌-◌}
 use Rattle.base.specs.Laws.Removing.{removing_start, removing_on, removing_down, removed_none, removed_some, removed_all, removed_count}
 use Rattle.handlers.specs.Rows.{out_row}
 use Rattle.handlers.proofs.Typed.{unmapped, counted}
@@ -21,7 +20,7 @@ pub loop-i-preserved : goal.loop-i-preserved
 loop-i-preserved c =
     let v = c.loop-i.invariant in
     let h = c.loop-i-test.true in
-    elim c.if-found.branch [ then-found w ↦ rw (w.2, w.3, (v.some w.if-found.true).0) (removing_down v h out_row w.if-found.true) | else-found w ↦ rw (w.1, w.2, (v.none w.if-found.false).0) (removing_on v h out_row w.if-found.false) ]
+    elim c.if-found.branch [ then-found w ↦ rw (w.t-is, w.found-is, (v.some w.if-found.true).0) (removing_down v h out_row w.if-found.true) | else-found w ↦ rw (w.t-is, w.found-is, (v.none w.if-found.false).0) (removing_on v h out_row w.if-found.false) ]
 
 pub overflow_sub-t : goal.overflow_sub-t
 overflow_sub-t c =
@@ -33,10 +32,14 @@ returns-then-found-2 c =
     let v = c.loop-i.invariant in
     let a = c.args in
     let g = c.loop-i-test.false in
-    let f = c.if-found-2.true in let all = forget_both a.t1 a.name _ (ap₂ counted (removed_count v g f) (removed_all v g f) ∙ forget_cut a.t1 a.name (removed_some v g f)) in record { exact = all.0; model = all.1 }
+    let f = c.if-found-2.true in
+    let all = forget_both a.t a.name _ (ap₂ counted (removed_count v g f) (removed_all v g f) ∙ forget_cut a.t a.name (removed_some v g f)) in
+    record { exact = all.0; model = all.1 }
 
 pub returns-else-found-2 : goal.returns-else-found-2
 returns-else-found-2 c =
     let v = c.loop-i.invariant in
     let a = c.args in
-    let f = c.if-found-2.false in let all = forget_both a.t1 a.name _ ((v.none f).0 ∙ forget_none a.t1 a.name (removed_none v c.loop-i-test.false f)) in record { exact = all.0; model = all.1 }
+    let f = c.if-found-2.false in
+    let all = forget_both a.t a.name _ ((v.none f).0 ∙ forget_none a.t a.name (removed_none v c.loop-i-test.false f)) in
+    record { exact = all.0; model = all.1 }

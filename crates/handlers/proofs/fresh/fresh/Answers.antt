@@ -10,4 +10,6 @@ use Rattle.handlers.proofs.fresh.fresh.Goals as goal
 pub returns : goal.returns
 unfolding no_tasks
 returns c =
-    let f : Task → Tasks = λ (v : Task). record { count = 0; rows = replicate 16 v } in let all = fresh_both _ (ap f c.unset_row-v.ensures) in record { exact = all.0; model = all.1 }
+    let f : Task → Tasks = λ (v : Task). record { count = 0; rows = replicate 16 v } in
+    let all = fresh_both _ (ap f c.unset_row-v.ensures) in
+    record { exact = all.0; model = all.1 }

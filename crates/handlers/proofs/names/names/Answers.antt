@@ -1,7 +1,7 @@
 -- `names::names` meets its contract: at i the list has the names of the rows before i. Assumes nothing.
 use mathlib.Core.Path.{◌≡◌, refl, ap, ap₂, ◌∙◌}
 use mathlib.Core.List.{List, map}
-use Prim.Native.Nat.{ℕ, ◌-◌, min}
+use Prim.Native.Nat.{ℕ, min}
 use lib.ListN.{length, take, replicate, length-take}
 use Rattle.base.specs.Lists.{over}
 use Rattle.base.specs.Laws.Scans.{take_least}
@@ -24,7 +24,7 @@ pub loop-i-preserved : goal.loop-i-preserved
 loop-i-preserved c =
     let l = c.loop-i in
     let a = c.args in
-    let t : Tasks = a.t1 in
+    let t : Tasks = a.t in
     let e : l.list ≡ over (map name_of (take l.i t.rows)) (replicate 16 0) = l.invariant.3 in
     (omega arith, l.invariant.1, l.invariant.2, rw e (column_more name_of t.rows (replicate 16 0) l.i out_row (omega arith) (omega arith)))
 
@@ -33,8 +33,10 @@ unfolding names_in
 returns c =
     let l = c.loop-i in
     let a = c.args in
-    let t : Tasks = a.t1 in
+    let t : Tasks = a.t in
     let k : l.i ≡ min t.count (length t.rows) = omega arith in
     let f : take l.i t.rows ≡ live t = ap (λ (n : ℕ). take n t.rows) k ∙ take_least t.count t.rows in
     let n = length-take t.count t.rows in
-    let m : c.least-m.result ≡ length (live t) = omega arith in let all = names_both t _ (ap₂ listed m (l.invariant.3 ∙ ap (λ (r : List Task). over (map name_of r) (replicate 16 0)) f)) in record { exact = all.0; model = all.1 }
+    let m : c.least-m.result ≡ length (live t) = omega arith in
+    let all = names_both t _ (ap₂ listed m (l.invariant.3 ∙ ap (λ (r : List Task). over (map name_of r) (replicate 16 0)) f)) in
+    record { exact = all.0; model = all.1 }

@@ -1,6 +1,5 @@
 -- `rows::find` meets its contract: the rows passed do not have the name. Assumes nothing.
 use mathlib.Core.Path.{ap₂, ◌∙◌}
-use Prim.Native.Nat.{◌-◌}
 use borrow.Author.Tests.{eq-eqb, ne_eqb}
 use Rattle.base.specs.Laws.Seeking.{seeks_start, seeks_on, seeks_hit, seeks_end, first_there, first_nowhere}
 use Rattle.handlers.specs.Rows.{out_row, unset_row}

@@ -6,4 +6,6 @@ use Rattle.handlers.proofs.set.reset.Goals as goal
 pub returns : goal.returns
 unfolding reset_in
 returns c =
-    let a = c.args in let all = reset_both a.t a.name a.condition _ c.set_to.ensures in record { exact = all.0; model = all.1 }
+    let a = c.args in
+    let all = reset_both a.t a.name a.condition _ c.set_to.ensures in
+    record { exact = all.0; model = all.1 }

@@ -1,6 +1,5 @@
 -- `sound::row_sound` meets its contract: the settings passed are sound. Assumes nothing.
 use mathlib.Core.Path.{refl, sym, ◌∙◌}
-use Prim.Native.Nat.{◌-◌}
 use Rattle.base.specs.Laws.Scans.{all_hit, all_miss, all_end}
 use Rattle.handlers.specs.declared.Task.{Task}
 use Rattle.handlers.specs.Rows.{unset}

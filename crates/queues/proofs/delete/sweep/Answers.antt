@@ -1,9 +1,8 @@
 -- `queues::delete::sweep` meets its contract. The loop's invariant: i entries are swept, and j of them stay. Assumes nothing.
 use mathlib.Core.Path.{◌≡◌, refl, sym, ap, ◌∙◌}
-use mathlib.Core.Logic.{⊎_elim}
 use Prim.Native.Nat.{ℕ, ◌≤◌, ◌<◌, ◌+◌, ◌-◌}
 use native.Mathlib.Omega.{arith}
-use borrow.Author.Rules.{rules, zero≤}
+use borrow.Author.Rules.{rules}
 use lib.ListN.{length, take}
 use Rattle.slots.specs.Bits.{cleared}
 use Rattle.slots.specs.Laws.Slots.{held_le}
@@ -13,6 +12,7 @@ use Rattle.queues.specs.Delete.{others_than}
 use Rattle.queues.proofs.Small.{below, eights, next_fits, next, nearer}
 use Rattle.queues.proofs.SweepLaws.{swept_to, turn_hit, turn_miss, swept_none, swept_all}
 use Rattle.queues.proofs.delete.sweep.Goals as goal
+use Rattle.queues.proofs.delete.sweep.Goals.{else-o-name, then-o-name}
 
 -- the counts, in lemmas of a few numbers
 through : (n k m : ℕ) → k ≤ m → n ≡ k → n ≤ m
@@ -39,7 +39,7 @@ long-enough n k l e h g = omega arith
 pub loop-i-init : goal.loop-i-init
 loop-i-init c =
     let q = c.args.q in
-    (zero≤, through _ _ _ (held_le q.used (record { low = search rules; high = search rules })) c.count-n.ensures.exact, search rules, search rules, refl, sym (swept_none q c.args.name), zero≤)
+    (search rules, through _ _ _ (held_le q.used (record { low = search rules; high = search rules })) c.count-n.ensures.exact, search rules, search rules, refl, sym (swept_none q c.args.name), search rules)
 
 pub offset_bounds-q-i : goal.offset_bounds-q-i
 offset_bounds-q-i c = eights _ _ c.loop-i-test.true c.loop-i.invariant.1
@@ -84,23 +84,23 @@ loop-i-preserved c =
     let h = c.loop-i-test.true in
     let o = within-long _ _ _ h b.1 b.2 in
     let s = within-long _ _ _ h b.1 b.3 in
-    ⊎_elim
-    (λ w.
-    let g = turn_hit a.t1 a.name l.i o s l.q l.j b.5 b.4 w.0.taken in (
-      next _ _ h,
-      b.1,
-      b.2,
-      b.3,
-      w.5 ∙ g.1,
-      w.4 ∙ ap (λ (x : Used). record { count = l.q.count; names = l.q.names; pointers = l.q.pointers; used = x; owner = l.q.owner; slot = l.q.slot; len = l.q.len })
-          (w.3.ensures.0 ∙ ap (cleared l.q.used) w.2.ensures.0)
-          ∙ g.0,
-      gone _ _ _ w.5 b.6,
-    ))
-    (λ w.
-    let g = turn_miss a.t1 a.name l.i o s l.q l.j b.5 b.4 w.0.left in
-    (next _ _ h, b.1, b.2, b.3, w.2 ∙ g.1, w.1 ∙ g.0, stayed _ _ _ w.2 b.6))
-    c.if-o-name.branch
+    elim c.if-o-name.branch [
+      | then-o-name w ↦
+          let g = turn_hit a.q a.name l.i o s l.q l.j b.5 b.4 w.if-o-name.true in (
+            next _ _ h,
+            b.1,
+            b.2,
+            b.3,
+            w.j-is ∙ g.1,
+            w.q-is ∙ ap (λ (x : Used). record { count = l.q.count; names = l.q.names; pointers = l.q.pointers; used = x; owner = l.q.owner; slot = l.q.slot; len = l.q.len })
+                (w.clear-q.ensures.exact ∙ ap (cleared l.q.used) w.wide.ensures.exact)
+                ∙ g.0,
+            gone _ _ _ w.j-is b.6,
+          )
+      | else-o-name w ↦
+          let g = turn_miss a.q a.name l.i o s l.q l.j b.5 b.4 w.if-o-name.false in
+          (next _ _ h, b.1, b.2, b.3, w.j-is ∙ g.1, w.q-is ∙ g.0, stayed _ _ _ w.j-is b.6)
+    ]
 
 pub returns : goal.returns
 returns c =
@@ -108,6 +108,6 @@ returns c =
     let l = c.loop-i in
     let b = l.invariant in
     let held = c.count-n.ensures.exact in
-    let n : l.i ≡ entries a.t1 = ended _ _ _ b.0 c.loop-i-test.false held in
-    swept_all a.t1 a.name l.j _ l.q (long-enough _ _ _ held b.1 b.2) (b.5 ∙ ap (swept_to a.t1 a.name) n)
-    (b.4 ∙ ap (λ (k : ℕ). length (others_than a.name (take k a.t1.owner))) n) (ap (λ (k : ℕ). k - l.j) held)
+    let n : l.i ≡ entries a.q = ended _ _ _ b.0 c.loop-i-test.false held in
+    swept_all a.q a.name l.j _ l.q (long-enough _ _ _ held b.1 b.2) (b.5 ∙ ap (swept_to a.q a.name) n)
+    (b.4 ∙ ap (λ (k : ℕ). length (others_than a.name (take k a.q.owner))) n) (ap (λ (k : ℕ). k - l.j) held)

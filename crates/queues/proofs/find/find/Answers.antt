@@ -1,5 +1,4 @@
 -- `find` meets its contract: what is left of the list is searched, from as many as were passed. Assumes nothing.
-use Prim.Native.Nat.{◌-◌}
 use native.Mathlib.Nat.{zero-add}
 use lib.ListN.{length-take}
 use Rattle.queues.proofs.Scans.{find_end, find_here, find_next}

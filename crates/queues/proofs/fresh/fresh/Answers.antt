@@ -5,4 +5,5 @@ use Rattle.queues.proofs.fresh.fresh.Goals as goal
 
 pub returns : goal.returns
 unfolding fresh
-returns c = let all = fresh_both _ (cc c.none.ensures.exact) in record { exact = all.0; model = all.1 }
+returns c = let all = fresh_both _ (cc c.none.ensures.exact) in
+    record { exact = all.0; model = all.1 }

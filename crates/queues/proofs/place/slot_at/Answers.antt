@@ -10,15 +10,16 @@ use Rattle.slots.specs.Laws.Slots.{held_le}
 use Rattle.queues.specs.Table.{slots_of}
 use Rattle.queues.specs.Laws.Place.{counted, at_zero, at_past, at_long, at_slot}
 use Rattle.queues.proofs.place.slot_at.Goals as goal
+use Rattle.queues.proofs.place.slot_at.Goals.{Start}
 
 -- the queue's slots
-abbrev slots : (s : goal.Start) → List ℕ
+abbrev slots : (s : Start) → List ℕ
 slots s =
     let a = s.args in
     slots_of a.name (take (held a.u) a.owner.now) (take (held a.u) a.slot.now)
 
 pub returns-then-place-eq0 : goal.returns-then-place-eq0
-returns-then-place-eq0 c = let a = c.args in record { exact = at_zero a.len.now (slots c.before.before.before.before) a.place 0 c.if-place-eq0.true }
+returns-then-place-eq0 c = let a = c.args in record { exact = at_zero a.len.now (slots (goal.at.returns-then-place-eq0 c).Start) a.place 0 c.if-place-eq0.true }
 
 pub nth-s-requires : goal.nth-s-requires
 nth-s-requires c =
@@ -29,15 +30,21 @@ nth-s-requires c =
 
 pub returns-then-s-ge128 : goal.returns-then-s-ge128
 returns-then-s-ge128 c =
-    let a = c.args in record { exact = at_past a.len.now (slots c.before.before.before.before.before.before.before) a.place c.nth-s.result c.if-place-eq0.false
-    (counted _ _ _ _ _ _ _ c.count-n.ensures.exact c.nth-s.ensures.exact) c.if-s-ge128.true }
+    let a = c.args in record {
+      exact = at_past a.len.now (slots (goal.at.returns-then-s-ge128 c).Start) a.place c.nth-s.result c.if-place-eq0.false
+          (counted _ _ _ _ _ _ _ c.count-n.ensures.exact c.nth-s.ensures.exact) c.if-s-ge128.true;
+    }
 
 pub returns-then-len-s-gt64 : goal.returns-then-len-s-gt64
 returns-then-len-s-gt64 c =
-    let a = c.args in record { exact = at_long a.len.now (slots c.before.before.before.before.before.before.before.before.before) a.place c.nth-s.result c.if-place-eq0.false
-    (counted _ _ _ _ _ _ _ c.count-n.ensures.exact c.nth-s.ensures.exact) c.if-s-ge128.false c.if-len-s-gt64.true }
+    let a = c.args in record {
+      exact = at_long a.len.now (slots (goal.at.returns-then-len-s-gt64 c).Start) a.place c.nth-s.result c.if-place-eq0.false
+          (counted _ _ _ _ _ _ _ c.count-n.ensures.exact c.nth-s.ensures.exact) c.if-s-ge128.false c.if-len-s-gt64.true;
+    }
 
 pub returns : goal.returns
 returns c =
-    let a = c.args in record { exact = at_slot a.len.now (slots c.before.before.before.before.before.before.before.before.before) a.place c.nth-s.result c.if-place-eq0.false
-    (counted _ _ _ _ _ _ _ c.count-n.ensures.exact c.nth-s.ensures.exact) c.if-s-ge128.false c.if-len-s-gt64.false }
+    let a = c.args in record {
+      exact = at_slot a.len.now (slots (goal.at.returns c).Start) a.place c.nth-s.result c.if-place-eq0.false
+          (counted _ _ _ _ _ _ _ c.count-n.ensures.exact c.nth-s.ensures.exact) c.if-s-ge128.false c.if-len-s-gt64.false;
+    }

@@ -2,6 +2,7 @@ use mathlib.Core.Path.{◌≡◌}
 use Prim.Native.Nat.{◌≤◌, ◌-◌, min}
 use lib.ListN.{length, take, drop}
 use Rattle.base.specs.Lists.{all}
+use Rattle.queues.proofs.SoundLaws.{fits}
 use Rattle.queues.proofs.sound.lengths_sound.Given as goal
 
 abbrev pub invariant-loop-i : goal.invariant-loop-i

@@ -1,10 +1,9 @@
 -- `queues::sound::slots_sound` meets its contract: what is left of the slots drains what is left of the bits exactly if all of them drain all.
 -- Assumes nothing.
 use mathlib.Core.Path.{◌≡◌, refl, sym, ap, ◌∙◌, subst}
-use Prim.Native.Nat.{◌+◌, ◌-◌}
+use Prim.Native.Nat.{◌+◌}
 use native.Mathlib.Omega.{arith}
 use borrow.Author.Rules.{rules}
-use borrow.Author.Tests.{not-true, not-false}
 use lib.ListN.{take, drop}
 use Rattle.slots.specs.declared.Used.{Used}
 use Rattle.slots.specs.Bits.{cleared}
@@ -23,7 +22,7 @@ returns-then-not-is_used c =
     let a = c.args in
     let l = c.loop-i in
     sym (drain_miss a.slot.now a.n l.i c.wide-s.result l.v (omega arith) (omega arith) c.wide-s.ensures.exact
-    (sym c.is_used.ensures.exact ∙ not-true _ c.if-not-is_used.true-raw))
+    (sym c.is_used.ensures.exact ∙ c.if-not-is_used.true))
     ∙ l.invariant.4 ∙ drains_is a.u l.invariant.2 (take a.n a.slot.now)
 
 pub loop-i-preserved : goal.loop-i-preserved
@@ -38,7 +37,7 @@ loop-i-preserved c =
       subst Typed (sym e) (cleared_typed l.v l.invariant.3 s),
       ap (λ (x : Used). drains x (drop (l.i + 1) (take a.n a.slot.now))) e
           ∙ drain_hit a.slot.now a.n l.i s l.v (omega arith) (omega arith) c.wide-s.ensures.exact
-          (sym c.is_used.ensures.exact ∙ not-false _ c.if-not-is_used.false-raw)
+          (sym c.is_used.ensures.exact ∙ c.if-not-is_used.false)
           ∙ l.invariant.4,
     )
 
