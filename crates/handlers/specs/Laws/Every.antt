@@ -11,7 +11,7 @@ use Rattle.base.specs.Laws.Keep.{all_append, all_drop, all_replicate}
 use Rattle.base.specs.Laws.Maps.{map_id, all_map_imp}
 use Rattle.base.specs.Laws.Over.{take_over, length_over}
 use Rattle.model.specs.Handlers as model
-use Rattle.model.specs.Laws.SoundTasks.{view_tasks}
+use Rattle.model.proofs.Laws.SoundTasks.{view_tasks}
 use Rattle.handlers.specs.declared.Setting.{Setting}
 use Rattle.handlers.specs.declared.Setting.TheVariants.{Unset, Ignore, Label}
 use Rattle.handlers.specs.declared.Cell.{Cell}

@@ -11,7 +11,7 @@ use Rattle.base.specs.Laws.Maps.{keep_map}
 use Rattle.base.specs.Laws.Index.{cut_by_name}
 use Rattle.base.specs.Laws.Cut.{length_cut}
 use Rattle.model.specs.Handlers as model
-use Rattle.model.specs.Laws.SoundTasks.{forget_sound}
+use Rattle.model.proofs.Laws.SoundTasks.{forget_sound}
 use Rattle.handlers.specs.declared.Task.{Task}
 use Rattle.handlers.specs.declared.Tasks.{Tasks}
 use Rattle.handlers.specs.Table.{task_of, live, tasks_of, sound_h}

@@ -8,7 +8,7 @@ use Rattle.base.specs.Lists.{all, any, cut_at}
 use Rattle.base.specs.Laws.Tests.{and_l, and_r, and_i, pick_elim}
 use Rattle.base.specs.Laws.Keep.{all_append, all_drop, all_take, all_set, first_or}
 use Rattle.base.specs.Laws.Over.{length_over}
-use Rattle.model.specs.Laws.SoundTasks.{no_tasks_sound}
+use Rattle.model.proofs.Laws.SoundTasks.{no_tasks_sound}
 use Rattle.handlers.specs.declared.Setting.{Setting}
 use Rattle.handlers.specs.declared.Setting.TheVariants.{Unset, Ignore, Label}
 use Rattle.handlers.specs.declared.Cell.{Cell}

@@ -17,7 +17,7 @@ use Rattle.base.specs.Laws.Maps.{map_swap, map_none, map_set}
 use Rattle.base.specs.Laws.Index.{set_by_name}
 use Rattle.model.specs.Plans.{invalid_request, check, plan, done}
 use Rattle.model.specs.Handlers as model
-use Rattle.model.specs.Laws.SoundTasks.{set_sound}
+use Rattle.model.proofs.Laws.SoundTasks.{set_sound}
 use Rattle.handlers.specs.declared.Setting.{Setting}
 use Rattle.handlers.specs.declared.Setting.TheVariants.{Unset, Ignore, Label}
 use Rattle.handlers.specs.declared.Cell.{Cell}

@@ -13,7 +13,7 @@ use Rattle.base.specs.Laws.Maps.{any_map}
 use Rattle.base.specs.Laws.Counting.{has_map, pigeon}
 use Rattle.base.specs.Laws.Over.{take_over}
 use Rattle.model.specs.Handlers as model
-use Rattle.model.specs.Laws.SoundTasks.{view_tasks}
+use Rattle.model.proofs.Laws.SoundTasks.{view_tasks}
 use Rattle.handlers.specs.declared.Task.{Task}
 use Rattle.handlers.specs.declared.Tasks.{Tasks}
 use Rattle.handlers.specs.Table.{task_of, live, with_live, tasks_of, sound_h}

@@ -25,7 +25,7 @@ use Rattle.slots.specs.Laws.Slots.{none_typed, none_held, none_bit, marked_typed
 use Rattle.slots.specs.declared.Used.{Used}
 use Rattle.model.specs.Limits.{Limits, sized, is_item}
 use Rattle.model.specs.Queues.{Queue, items_in, sound_queue, sound_queues}
-use Rattle.model.specs.Laws.SoundQueues.{QueuesSound, view, view_one}
+use Rattle.model.proofs.Laws.SoundQueues.{QueuesSound, view, view_one}
 use Rattle.queue_rows.specs.Table.{Queues, rows_in, slots_in, names_of, pointers_of, owners, places, slots_of, contents, Store, store}
 use Rattle.queue_rows.specs.Model.{queues_from, items_of, queues_of}
 use Rattle.queue_rows.specs.Sound.{sound_q, length_in, SoundS}

@@ -16,7 +16,7 @@ use Rattle.base.specs.Laws.Bytes.{is_bytes_take, is_bytes_drop}
 use Rattle.slots.specs.Bits.{used_at}
 use Rattle.model.specs.Limits.{Limits, is_item}
 use Rattle.model.specs.Queues.{Queue, known_queue, queue_of, no_items, items_in, sound_queues}
-use Rattle.model.specs.Laws.SoundQueues.{QueuesSound, unview}
+use Rattle.model.proofs.Laws.SoundQueues.{QueuesSound, unview}
 use Rattle.queue_rows.specs.Table.{Queues, rows_in, slots_in, names_of, pointers_of, entries, owners, places, row_of, slots_named, contents, Store, store}
 use Rattle.queue_rows.specs.Model.{items_of, queues_of, limits_of}
 use Rattle.queue_rows.specs.Sound.{pointed, length_in, sound_q, SoundS}

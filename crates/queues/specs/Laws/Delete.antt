@@ -18,7 +18,7 @@ use Rattle.slots.specs.Laws.Slots.{used_bit}
 use Rattle.model.specs.Limits.{cabinet}
 use Rattle.model.specs.Plans.{first_of}
 use Rattle.model.specs.Queues.{Queue, queue_of, sound_queues, delete}
-use Rattle.model.specs.Laws.SoundQueues.{delete_sound}
+use Rattle.model.proofs.Laws.SoundQueues.{delete_sound}
 use Rattle.queues.specs.declared.Queues.{Queues}
 use Rattle.queues.specs.declared.delete.Deleted.{Deleted}
 use Rattle.queues.specs.declared.delete.Deleting.TheVariants.{UnknownQueue, Invalid}

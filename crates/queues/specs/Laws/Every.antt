@@ -24,7 +24,7 @@ use Rattle.slots.specs.Laws.Slots.{none_typed, none_held, none_bit, marked_typed
 use Rattle.slots.specs.declared.Used.{Used}
 use Rattle.model.specs.Limits.{cabinet, is_item}
 use Rattle.model.specs.Queues.{Queue, items_in, sound_queue, sound_queues}
-use Rattle.model.specs.Laws.SoundQueues.{QueuesSound, view, view_one}
+use Rattle.model.proofs.Laws.SoundQueues.{QueuesSound, view, view_one}
 use Rattle.queues.specs.declared.Queues.{Queues}
 use Rattle.queues.specs.Table.{names_of, pointers_of, owners, places, slots_of, contents}
 use Rattle.queues.specs.Model.{queues_from, items_of, queues_of}

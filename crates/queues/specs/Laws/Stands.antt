@@ -18,7 +18,7 @@ use Rattle.slots.specs.Bits.{used_at}
 use Rattle.model.specs.Limits.{cabinet, is_item}
 use Rattle.model.specs.Queues.{Queue, known_queue, queue_of, no_items, items_in, sound_queues}
 use Rattle.base.specs.Laws.Maps.{all_map_imp}
-use Rattle.model.specs.Laws.SoundQueues.{view, unview}
+use Rattle.model.proofs.Laws.SoundQueues.{view, unview}
 use Rattle.queues.specs.declared.Queues.{Queues}
 use Rattle.queues.specs.Table.{rows_in, names_of, pointers_of, entries, owners, places, row_of, slots_in, contents}
 use Rattle.queues.specs.Model.{items_of, queues_of}
