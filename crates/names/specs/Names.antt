@@ -1,5 +1,5 @@
 -- Names in words: how many there are, then the places for them.
-use Rattle.std.specs.Prelude.{ℕ, ◌+◌, Bool, ◌&&◌, List, [], ◌∷◌, ◌++◌, eqb, leb, length, take, drop, get_or, replicate}
+use Rattle.std.specs.Prelude.{ℕ, Bool, ◌&&◌, List, [], ◌∷◌, ◌++◌, eqb, leb, length, take, drop, get_or, replicate}
 use Rattle.base.specs.Choice.{pick}
 use Rattle.base.specs.Lists.{all, has, once, over}
 use Rattle.base.specs.Bytes.{blank, is_name}

@@ -4,7 +4,6 @@ use lib.Dec.{leb}
 use Rattle.names.specs.Laws.Part.{tested}
 use Rattle.names.proofs.sound.Goals as goal
 
--- src/lib.rt:111:1
 pub returns : goal.returns
 returns c =
     let a = c.args in record {

@@ -1,11 +1,11 @@
 -- What a define comes to, case by case, as the code finds it. Assumes nothing.
-use Rattle.std.specs.Prelude.{ℕ, zero, suc, ◌+◌, ◌<◌, ◌≤◌, ◌≡◌, refl, true, false, List, [], ◌∷◌, ◌++◌, eqb, length, take, set}
+use Rattle.std.specs.Prelude.{ℕ, ◌+◌, ◌<◌, ◌≤◌, ◌≡◌, true, false, List, [], ◌∷◌, ◌++◌, length, take, set}
 use Rattle.std.proofs.Common.{sym, ap, ap₂, ◌∙◌, add-one, arith, length-append, length-take}
 use borrow.Author.Tests.{eq-eqb, ne_eqb, le-leb, lt-leb}
 use Rattle.base.specs.Bytes.{blank}
 use Rattle.base.specs.Lists.{has, over}
 use Rattle.base.specs.Laws.Over.{over_put}
-use Rattle.model.specs.Plans.{Outcome, fault, done}
+use Rattle.model.specs.Plans.{fault, done}
 use Rattle.names.specs.Names.{Names, view_of, names_in, with_names, define_in}
 
 -- the first of n names, where there are that many or fewer

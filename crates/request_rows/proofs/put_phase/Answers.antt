@@ -1,11 +1,10 @@
 -- `put_phase` meets its contract. Assumes nothing.
 use Prim.Native.Nat.{ℕ, ◌+◌, ◌*◌}
-use mathlib.Core.Path.{◌∙◌, ap, sym}
+use mathlib.Core.Path.{◌∙◌, ap}
 use native.Mathlib.Omega.{arith}
-use lib.ListN.{get_or, set}
-use Rattle.request_rows.specs.Laws.View.{rows_in_lem, view_phase, view_out}
+use lib.ListN.{set}
+use Rattle.request_rows.specs.Laws.View.{rows_in_lem, view_phase}
 use Rattle.request_rows.specs.Table.{view_of}
-use Rattle.request_rows.specs.Rows.{no_row, in_phase}
 use Rattle.request_rows.proofs.put_phase.Goals as goal
 
 pub overflow_mul-t : goal.overflow_mul-t
@@ -26,7 +25,3 @@ bounds-t-i c = omega (arith, rows_in_lem c.args.t.now)
 pub returns-then-i-rows : goal.returns-then-i-rows
 returns-then-i-rows c =
     let a = c.args in record { exact = ap (λ (x : ℕ). view_of (set a.t.now (2 + a.i * 4 + 2) x)) c.phase_word.ensures.exact ∙ view_phase a.t.now a.i a.p (omega arith) }
-
-pub returns-else-i-rows : goal.returns-else-i-rows
-returns-else-i-rows c =
-    let a = c.args in record { exact = sym (view_out a.t.now a.i (in_phase a.p (get_or (view_of a.t.now).rows a.i no_row)) (omega arith)) }

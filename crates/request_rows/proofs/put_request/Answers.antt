@@ -1,10 +1,10 @@
 -- `put_request` meets its contract: four stores are a row. Assumes nothing.
 use Prim.Native.Nat.{ℕ, ◌+◌, ◌*◌}
-use mathlib.Core.Path.{◌∙◌, ap, sym}
+use mathlib.Core.Path.{◌∙◌, ap}
 use native.Mathlib.Omega.{arith}
-use Rattle.request_rows.specs.Laws.View.{rows_in_lem, view_put, view_out}
+use Rattle.request_rows.specs.Laws.View.{rows_in_lem, view_put}
 use Rattle.request_rows.specs.Table.{view_of, with_row}
-use Rattle.request_rows.specs.Rows.{row, encode}
+use Rattle.request_rows.specs.Rows.{row}
 use Rattle.request_rows.proofs.put_request.Goals as goal
 
 pub overflow_mul-i : goal.overflow_mul-i
@@ -23,6 +23,3 @@ returns-then-i-rows c =
       exact = ap view_of c.put_row.ensures ∙ view_put a.t.now a.i q (omega arith)
           ∙ ap (λ (x : ℕ). with_row (view_of a.t.now) a.i (row a.q.name (a.q.program * 4294967296 + a.q.terminal) x (a.q.len + a.q.slot * 256))) c.phase_word.ensures.exact;
     }
-
-pub returns-else-i-rows : goal.returns-else-i-rows
-returns-else-i-rows c = let a = c.args in record { exact = sym (view_out a.t.now a.i (encode a.q) (omega arith)) }

@@ -3,8 +3,5 @@ use native.Mathlib.Omega.{arith}
 use Rattle.request_rows.specs.Laws.View.{rows_in_lem}
 use Rattle.request_rows.proofs.rows.Goals as goal
 
-pub returns-then-t-lt2 : goal.returns-then-t-lt2
-returns-then-t-lt2 c = record { exact = omega (arith, rows_in_lem c.args.t.now) }
-
 pub returns : goal.returns
 returns c = record { exact = omega (arith, rows_in_lem c.args.t.now) }
