@@ -46,9 +46,6 @@ module _ (t : Tasks) (n : ℕ) (e : n ≡ length (live t)) where
       let m : n + 1 ≡ length (live t ++ (v ∷ [])) = omega (arith, length-append (live t) (v ∷ [])) in
       rw (lt-ltb (length (live t)) (rows_in t) (omega arith)) (ap₂ (λ (j : ℕ) (r : List Line). tasks j r t.past) m l)
 
-  pub add_none : (v : Line) → rows_in t ≤ n → t ≡ add_in t v
-  add_none v h = rw (le-ltb (length (live t)) (rows_in t) (omega arith))
-
   -- the count is within the rows, or not
   pub sound_large : n < t.count → false ≡ sound_h t
   unfolding sound_h

@@ -8,4 +8,7 @@ use Rattle.request_ops.proofs.ask.ask.Goals as goal
 
 pub returns : goal.returns
 unfolding ask_in
-returns c = let v = view_of c.args.requests.now in let all = said_plain _ _ _ v _ c.plain.ensures.exact (ap (done v) c.register.ensures.exact) in record { exact = all.0; short = all.1 }
+returns c =
+    let v = view_of c.args.requests.now in
+    let all = said_plain _ _ _ v _ c.plain.ensures.exact (ap (done v) c.register.ensures.exact) in
+    record { exact = all.0; short = all.1 }

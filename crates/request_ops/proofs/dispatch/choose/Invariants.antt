@@ -1,3 +1,4 @@
+-- `dispatch::choose`: none of the rows before i can start, and so many of the line were passed.
 use Rattle.std.proofs.Common.{◌-◌}
 use Rattle.request_ops.specs.Laws.Dispatch.{Passing}
 use Rattle.request_ops.proofs.dispatch.choose.Given as goal

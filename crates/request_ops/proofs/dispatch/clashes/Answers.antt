@@ -1,5 +1,5 @@
 -- `dispatch::clashes` meets its contract. Assumes nothing.
-use Rattle.std.proofs.Common.{◌-◌, sym, ap, ◌∙◌}
+use Rattle.std.proofs.Common.{sym, ap, ◌∙◌}
 use Rattle.base.specs.Laws.Seeking.{seeks_on, seeks_some, seeks_none}
 use Rattle.request_rows.specs.Laws.View.{live_sought}
 use Rattle.request_ops.specs.Dispatch.{blocks}

@@ -1,3 +1,4 @@
+-- `dispatch::clashes`: none of the rows before i clashes.
 use Rattle.std.proofs.Common.{◌-◌}
 use Rattle.request_rows.specs.Laws.View.{Seeks}
 use Rattle.request_rows.specs.Dispatch.{clash}

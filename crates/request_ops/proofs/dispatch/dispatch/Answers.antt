@@ -7,11 +7,16 @@ use Rattle.request_ops.proofs.dispatch.dispatch.Goals as goal
 
 pub returns-then-c-count : goal.returns-then-c-count
 returns-then-c-count c =
-    let a = c.args in record { exact = dispatch_hit a.requests.now _ _ c.choose-c.ensures (omega arith) c.request_at.result c.request_at.ensures.exact
-          (view_of c.put_phase.new.t) c.put_phase.ensures.exact a.body.now _ c.tell.ensures; short = omega arith }
+    let a = c.args in
+    record {
+      exact = dispatch_hit a.requests.now _ _ c.choose-c.ensures (omega arith) c.request_at.result c.request_at.ensures.exact
+          (view_of c.put_phase.new.t) c.put_phase.ensures.exact a.body.now _ c.tell.ensures;
+      short = omega arith;
+    }
 
 pub returns : goal.returns
 returns c =
     let a = c.args in
     let v = view_of a.requests.now in
-    let s = said_plain _ _ _ v _ c.plain.ensures.exact (dispatch_none v _ _ c.choose-c.ensures (omega arith)) in record { exact = s.0 a.body.now; short = s.1 }
+    let s = said_plain _ _ _ v _ c.plain.ensures.exact (dispatch_none v _ _ c.choose-c.ensures (omega arith)) in
+    record { exact = s.0 a.body.now; short = s.1 }

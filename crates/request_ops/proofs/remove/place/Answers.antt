@@ -19,3 +19,6 @@ returns c =
     c.find.ensures.exact
     ∙ ap (λ (l : List ℕ). first_at (λ x. eqb x a.name) (column 3 l)) (live_words w _ _ c.count.ensures.exact c.least-head.ensures.exact)
     ∙ names_first a.name (live (view_of w))
+
+pub slice_bounds-find-end : goal.slice_bounds-find-end
+slice_bounds-find-end c = let w = c.args.requests.now in omega (arith, rows_in_lem w, live_count w)

@@ -18,7 +18,13 @@ bounds-requests-1 c = let w = c.args.requests.now in omega (arith, rows_in_lem w
 
 pub returns-then-i-m : goal.returns-then-i-m
 returns-then-i-m c =
-    let a = c.args in record { exact = removed a.requests.now a.i _ c.count-m.ensures.exact c.if-i-m.true c.shut.new.t c.shut.ensures.exact }
+    let a = c.args in
+    record { exact = removed a.requests.now a.i _ c.count-m.ensures.exact c.if-i-m.true c.shut.new.t c.shut.ensures.exact }
 
 pub returns-else-i-m : goal.returns-else-i-m
-returns-else-i-m c = let a = c.args in record { exact = unremoved a.requests.now a.i _ c.count-m.ensures.exact c.if-i-m.false }
+returns-else-i-m c =
+    let a = c.args in
+    record { exact = unremoved a.requests.now a.i _ c.count-m.ensures.exact c.if-i-m.false }
+
+pub slice_bounds-shut-end : goal.slice_bounds-shut-end
+slice_bounds-shut-end c = let w = c.args.requests.now in omega (arith, rows_in_lem w, live_count w)

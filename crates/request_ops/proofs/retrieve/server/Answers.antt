@@ -1,5 +1,5 @@
 -- `retrieve::server` meets its contract: none of the rows that were passed serves. Assumes nothing.
-use Rattle.std.proofs.Common.{◌-◌, length, get_or, sym, ap, ◌∙◌}
+use Rattle.std.proofs.Common.{length, get_or, sym, ap, ◌∙◌}
 use Rattle.base.specs.Laws.Seeking.{seeks_hit, seeks_on, seeks_end}
 use Rattle.request_rows.specs.Laws.View.{live_sought}
 use Rattle.request_ops.specs.Laws.Retrieve.{serves_row}

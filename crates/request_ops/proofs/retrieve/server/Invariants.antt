@@ -1,3 +1,4 @@
+-- `retrieve::server`: none of the rows before i serves.
 use Rattle.std.proofs.Common.{◌-◌}
 use Rattle.request_rows.specs.Laws.View.{Seeks}
 use Rattle.request_rows.specs.Retrieve.{serves}

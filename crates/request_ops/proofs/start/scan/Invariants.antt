@@ -1,3 +1,4 @@
+-- `start::scan`: none of the rows before i has the name, and the slots are theirs.
 use Rattle.std.proofs.Common.{◌-◌}
 use Rattle.request_ops.specs.Laws.Start.{Passing}
 use Rattle.request_ops.proofs.start.scan.Given as goal

@@ -1,3 +1,4 @@
+-- `tasks::task_at`: none of the rows before i is the task.
 use Rattle.std.proofs.Common.{◌-◌}
 use Rattle.request_rows.specs.Laws.View.{Seeks}
 use Rattle.request_rows.specs.Active.{task}

@@ -3,7 +3,7 @@ use Prim.Native.Nat.{◌+◌, ◌*◌, ◌-◌}
 use mathlib.Core.Path.{◌≡◌, ◌∙◌}
 use native.Mathlib.Omega.{arith}
 use Rattle.settings.specs.Table.{view_of}
-use Rattle.settings.specs.Laws.Lent.{rows_fit, put_some, cut_back}
+use Rattle.settings.specs.Laws.Lent.{rows_fit, cut_back}
 use Rattle.settings.proofs.Clauses.{forget_both}
 use Rattle.settings.proofs.Coded.{fits, found, forget_held, forget_none}
 use Rattle.settings.proofs.forget.forget.Goals as goal
@@ -35,12 +35,6 @@ overflow_mul-i c =
     let w = c.args.settings.now in
     let n = c.count-n in
     omega (arith, rows_fit w n.result (fits (view_of w) n.result n.ensures.exact), c.if-i-n.true)
-
-pub bounds-settings-0 : goal.bounds-settings-0
-bounds-settings-0 c =
-    let w = c.args.settings.now in
-    let n = c.count-n in
-    put_some w n.result c.place-i.result (n.result * 12 + 1 - 1) (fits (view_of w) n.result n.ensures.exact) c.if-i-n.true (omega arith) c.shut.new.t
 
 pub returns-then-i-n : goal.returns-then-i-n
 returns-then-i-n c =

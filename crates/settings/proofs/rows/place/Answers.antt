@@ -11,9 +11,6 @@ use Rattle.settings.specs.Table.{view_of}
 use Rattle.settings.specs.Laws.Lent.{rows_fit, names_lent}
 use Rattle.settings.proofs.rows.place.Goals as goal
 
-pub returns-then-n-eq0 : goal.returns-then-n-eq0
-returns-then-n-eq0 c = rw c.if-n-eq0.true
-
 -- the rows are in the words
 fit : (c : goal.Else-n-eq0) → c.args.n * 12 ≤ length c.args.settings.now - 1
 fit c = rows_fit c.args.settings.now c.args.n c.requires

@@ -1,11 +1,7 @@
 -- `rows::rows_in` meets its contract. Assumes nothing.
 use mathlib.Core.Path.{sym}
-use native.Mathlib.Omega.{arith}
 use Rattle.settings.specs.Laws.View.{view_rows}
 use Rattle.settings.proofs.rows.rows_in.Goals as goal
-
-pub returns-then-settings-eq0 : goal.returns-then-settings-eq0
-returns-then-settings-eq0 c = omega (arith, view_rows c.args.settings.now)
 
 pub returns : goal.returns
 returns c = sym (view_rows c.args.settings.now)

@@ -8,8 +8,8 @@ use lib.ListN.{length, replicate, length-set}
 use borrow.Author.Tests.{eq-eqb}
 use Rattle.settings.specs.Rows.{unset_line, with_word}
 use Rattle.settings.specs.Table.{view_of}
-use Rattle.settings.specs.Laws.Lent.{row_fits, back_some, row_counted}
-use Rattle.settings.proofs.Coded.{add_put, add_none}
+use Rattle.settings.specs.Laws.Lent.{row_fits, row_counted}
+use Rattle.settings.proofs.Coded.{add_put}
 use Rattle.settings.proofs.set.add.Goals as goal
 
 -- there is a place, so the row is in the words
@@ -32,11 +32,6 @@ slice_bounds-new_row-end c = omega (arith, row_fits c.args.settings.now c.args.n
 long : (n : ℕ) → n * 12 + 1 + 12 - (n * 12 + 1) ≡ 12
 long n = omega arith
 
-pub bounds-settings-0 : goal.bounds-settings-0
-bounds-settings-0 c =
-    let a = c.args in
-    back_some a.settings.now a.n (omega arith) (a.n * 12 + 1) (a.n * 12 + 1 + 12 - (a.n * 12 + 1)) refl (long a.n) c.new_row.new.row
-
 pub returns-then-n-rows_in : goal.returns-then-n-rows_in
 returns-then-n-rows_in c =
     let a = c.args in
@@ -45,6 +40,3 @@ returns-then-n-rows_in c =
     row_counted a.settings.now a.n (omega arith) (a.n * 12 + 1) (a.n * 12 + 1 + 12 - (a.n * 12 + 1)) refl (long a.n)
     v c.new_row.new.row (a.n + 1) eleven c.new_row.ensures
     ∙ add_put (view_of a.settings.now) a.n c.requires.n_value v (omega arith)
-
-pub returns-else-n-rows_in : goal.returns-else-n-rows_in
-returns-else-n-rows_in c = add_none (view_of c.args.settings.now) c.args.n c.requires.n_value _ (omega arith)
