@@ -8,7 +8,7 @@ use Rattle.std.proofs.Math.Dec.{eqb}
 use Rattle.std.proofs.Math.ListN.{get_or, get_or-map}
 use Rattle.base.specs.Laws.Maps.{first_map}
 use Rattle.model.specs.Handlers as model
-use Rattle.model.specs.Laws.SoundTasks.{decided_label}
+use Rattle.model.proofs.Laws.SoundTasks.{decided_label}
 use Rattle.settings.specs.declared.Setting.{Setting}
 use Rattle.settings.specs.declared.Setting.TheVariants.{Unset, Ignore, Label}
 use Rattle.settings.specs.Rows.{read_setting, named, unset_line, setting_at}

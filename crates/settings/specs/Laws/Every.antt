@@ -10,7 +10,7 @@ use Rattle.base.specs.Laws.Keep.{all_replicate}
 use Rattle.base.specs.Laws.Maps.{map_id, map_all_same, all_map_imp}
 use Rattle.base.specs.Laws.Over.{take_over, length_over, all_over}
 use Rattle.model.specs.Handlers as model
-use Rattle.model.specs.Laws.SoundTasks.{view_tasks}
+use Rattle.model.proofs.Laws.SoundTasks.{view_tasks}
 use Rattle.settings.specs.declared.Setting.{Setting}
 use Rattle.settings.specs.declared.Setting.TheVariants.{Unset, Ignore, Label}
 use Rattle.settings.specs.Rows.{Line, line, setting_word, no_line}

@@ -11,7 +11,7 @@ use Rattle.base.specs.Laws.Index.{cut_by_name}
 use Rattle.base.specs.Laws.Cut.{length_cut}
 use Rattle.base.specs.Laws.Over.{length_over}
 use Rattle.model.specs.Handlers as model
-use Rattle.model.specs.Laws.SoundTasks.{forget_sound}
+use Rattle.model.proofs.Laws.SoundTasks.{forget_sound}
 use Rattle.settings.specs.Rows.{Line, name_of, named, no_line}
 use Rattle.settings.specs.Table.{Tasks, rows_in, live, place_in, task_of, tasks_of, sound_h}
 use Rattle.settings.specs.Forget.{forget_in, Forgotten}

@@ -18,7 +18,7 @@ use Rattle.base.specs.Laws.Index.{set_by_name}
 use Rattle.base.specs.Laws.Over.{length_over}
 use Rattle.model.specs.Plans.{invalid_request, check, plan, done, Follows}
 use Rattle.model.specs.Handlers as model
-use Rattle.model.specs.Laws.SoundTasks.{set_sound}
+use Rattle.model.proofs.Laws.SoundTasks.{set_sound}
 use Rattle.settings.specs.declared.Setting.{Setting}
 use Rattle.settings.specs.declared.Setting.TheVariants.{Unset, Ignore, Label}
 use Rattle.settings.specs.Rows.{Line, read_setting, setting_word, name_of, named, unset_line, with_setting}

@@ -14,7 +14,7 @@ use Rattle.base.specs.Laws.Maps.{any_map, all_map_imp}
 use Rattle.base.specs.Laws.Counting.{has_map, pigeon}
 use Rattle.base.specs.Laws.Over.{take_over}
 use Rattle.model.specs.Handlers as model
-use Rattle.model.specs.Laws.SoundTasks.{view_tasks, no_tasks_sound}
+use Rattle.model.proofs.Laws.SoundTasks.{view_tasks, no_tasks_sound}
 use Rattle.settings.specs.Rows.{Line, read_setting, name_of, named, no_line}
 use Rattle.settings.specs.Table.{Tasks, rows_in, live, with_live, meant, task_of, tasks_of, sound_h}
 use Rattle.settings.specs.Names.{names_in, name_at}
