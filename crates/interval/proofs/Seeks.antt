@@ -1,5 +1,5 @@
 -- A scan of the rows for the first that passes a test, one row a turn: base's `Seeking`, of the struct's rows. Assumes nothing.
-use Rattle.std.proofs.Common.{◌≡◌, ℕ, ◌+◌, ◌<◌, ◌≤◌, min, Bool, true, false, ◌⊎◌, length, get_or, ⊎_elim}
+use Rattle.std.proofs.Common.{◌≡◌, ℕ, ◌+◌, ◌<◌, ◌≤◌, min, Bool, true, false, length, get_or}
 use Rattle.base.specs.Lists.{any, first_at}
 use Rattle.base.specs.Laws.Seeking as seeking
 use Rattle.interval.specs.declared.Request.{Request}
@@ -34,10 +34,6 @@ module _ (p : Request → Bool) (t : Requests) (m : ℕ) where
 
     pub seeks_end : m ≤ i → i ≡ first_at p (live t)
     seeks_end h = seeking.seeks_end v h
-
-    -- where a loop that breaks stops: past the last row, or at one that passes
-    pub seeks_stop : {A B : Type 0} → (A → m ≤ i) → (B → (i < m) × (p (get_or t.rows i out_row) ≡ true)) → A ⊎ B → i ≡ first_at p (live t)
-    seeks_stop f g = ⊎_elim (λ a. seeks_end (f a)) (λ b. seeks_hit (g b).0 (g b).1)
 
     pub seeks_none : m ≤ i → any p (live t) ≡ false
     seeks_none h = seeking.seeks_none v h

@@ -1,9 +1,8 @@
 -- The soundness check, part by part: names, the phase of a row, a row, and what a row has in a column. Assumes nothing.
-use Rattle.std.proofs.Common.{◌≡◌, ℕ, ◌+◌, ◌^◌, ◌<◌, ◌≤◌, Bool, true, false, not, ◌&&◌, ◌||◌, eqb, ltb, leb, List, length, get_or, take, sym, refl, ap, ◌∙◌, add_comm, zero-add, arith, length-take-le, w8, Fits, lt-ltb, eq-eqb, ne_eqb, le-leb, leb-true}
-use borrow.Author.Tests.{lt-leb}
-use Rattle.base.specs.Lists.{all, has, once}
+use Rattle.std.proofs.Common.{◌≡◌, ℕ, ◌+◌, ◌^◌, ◌<◌, Bool, true, false, not, ◌&&◌, ◌||◌, eqb, ltb, leb, List, length, get_or, take, refl, ap, ◌∙◌, add_comm, zero-add, arith, length-take-le, w8, Fits, lt-ltb, eq-eqb, ne_eqb, leb-true}
+use Rattle.base.specs.Lists.{all, once}
 use Rattle.base.specs.Bytes.{is_byte, is_bytes, blank, is_name}
-use Rattle.base.specs.Laws.Tests.{and_none, by_test, and_i, leb_add, ltb_add}
+use Rattle.base.specs.Laws.Tests.{by_test, and_i, leb_add, ltb_add}
 use Rattle.base.specs.Laws.Bytes.{is_bytes_take}
 use Rattle.base.specs.Laws.Keep.{all_by_get_d}
 use Rattle.model.specs.Limits.{cabinet, is_data}
@@ -11,12 +10,10 @@ use Rattle.model.specs.Interval as model
 use Rattle.interval.specs.declared.Phase.{Phase}
 use Rattle.interval.specs.declared.Phase.TheVariants.{Waiting, Expired, Active}
 use Rattle.interval.specs.declared.Request.{Request}
-use Rattle.interval.specs.declared.Requests.{Requests}
 use Rattle.interval.specs.Circle.{to_go}
-use Rattle.interval.specs.Table.{programs_of, terminals_of}
 use Rattle.interval.specs.Stands.{phase_at}
 use Rattle.interval.specs.Rows.{active, data_of}
-use Rattle.interval.specs.Sound.{phase_fits, sound_row, sound_in, key_of}
+use Rattle.interval.specs.Sound.{phase_fits, sound_row, key_of}
 
 and_true : (a : Bool) → a ≡ (a && true)
 and_true true = refl
@@ -27,24 +24,12 @@ and_true false = refl
 pub name_hit : (x : ℕ) → x < 2 ^ 32 → (x ≡ blank 4 → ⊥) → is_name 4 x ≡ true
 name_hit x h n = and_i (lt-ltb x (256 ^ 4) h) (ap not (ne_eqb x (blank 4) n))
 
-pub name_miss : (x : ℕ) → x ≡ blank 4 → is_name 4 x ≡ false
-name_miss x e = rw e
-
 module _ (l : List ℕ) (n most : ℕ) where
   abbrev pub named : Bool
   named = leb n most && once (take n l) && all (is_name 4) (take n l)
 
-  pub names_many : most < n → false ≡ named
-  names_many h = rw (lt-leb n most h)
-
   pub names_twice : once (take n l) ≡ false → false ≡ named
   names_twice e = rw e (by_test (leb n most) (λ t. rw t) (λ t. rw t))
-
-  pub names_blank : all (is_name 4) (take n l) ≡ false → false ≡ named
-  names_blank e = rw e (and_none (leb n most && once (take n l)))
-
-  pub names_well : n ≤ most → once (take n l) ≡ true → all (is_name 4) (take n l) ≡ true → true ≡ named
-  names_well h o a = sym (and_i (and_i (le-leb n most h) o) a)
 
 -- ---- the phase of a row
 
@@ -90,11 +75,6 @@ module _ (r : ℕ) (program terminal : Bool) (q : Request)
   pub row_answer : (a b z : Bool) → z ≡ (leb q.len 64 && not (eqb q.name (blank 8)) && program && a && b)
       → a ≡ (eqb q.terminal (blank 4) || terminal) → b ≡ phase_fits r q.len q.phase → z ≡ sound_row r program terminal q
   row_answer a b z h ha hb = let e : z ≡ row = h ∙ rw (ha, hb) in e ∙ row_is
-
--- what is found of a row is what its test asks
-pub row_tested : (t : Requests) (q : Request) (program terminal r : Bool) → program ≡ has q.program (programs_of t) → terminal ≡ has q.terminal (terminals_of t)
-    → r ≡ sound_row t.register program terminal q → sound_in t q ≡ r
-row_tested t q program terminal r p e h = sym (h ∙ rw (p, e))
 
 -- ---- what a row has in a column
 

@@ -1,5 +1,5 @@
 -- Rows: their phases, their names and their data; a row that holds no request; and the rows without one of them.
-use Rattle.std.specs.Prelude.{ℕ, suc, Bool, true, false, not, List, [], ◌++◌, take, replicate, ◌==◌, slice_set}
+use Rattle.std.specs.Prelude.{ℕ, Bool, true, false, not, List, [], take, replicate, ◌==◌, slice_set}
 use Rattle.interval.specs.declared.Phase.{Phase}
 use Rattle.interval.specs.declared.Phase.TheVariants.{Waiting, Expired, Active}
 use Rattle.interval.specs.declared.Request.{Request}

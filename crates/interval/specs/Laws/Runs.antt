@@ -10,7 +10,6 @@ use Rattle.model.specs.Plans.{Outcome, Plan, first_of, obey}
 use Rattle.model.specs.Interval as model
 use Rattle.interval.specs.declared.Requests.{Requests}
 use Rattle.interval.specs.Advance.{advance_of, clock_after}
-use Rattle.interval.specs.Define.{define_program, define_terminal}
 use Rattle.interval.specs.Dispatch.{dispatch_in}
 use Rattle.interval.specs.Fresh.{fresh_at}
 use Rattle.interval.specs.Retrieve.{retrieve_in}

@@ -16,7 +16,6 @@ use Rattle.model.specs.Plans.{Outcome, first_of, obey, check, done, invalid_requ
 use Rattle.model.specs.Interval as model
 use Rattle.base.specs.Laws.Tests.{or_false_r}
 use Rattle.model.proofs.Laws.SoundStart.{start_sound}
-use Rattle.interval.specs.declared.Phase.TheVariants.{Waiting}
 use Rattle.interval.specs.declared.Request.{Request}
 use Rattle.interval.specs.declared.Requests.{Requests}
 use Rattle.interval.specs.declared.answers.Start.{Start}

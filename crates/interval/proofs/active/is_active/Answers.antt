@@ -1,27 +1,21 @@
 -- `active::is_active` meets its contract: the rows passed are not active, or not of that name. Assumes nothing.
-use Rattle.std.proofs.Common.{◌-◌, true, false, sym, ◌∙◌, arith, rules}
-use Rattle.interval.specs.Laws.Typed.{unmapped}
+use Rattle.std.proofs.Common.{true, false, sym, ◌∙◌, arith}
 use Rattle.interval.specs.Active.{task}
 use Rattle.interval.specs.Laws.Active.{active_both}
-use Rattle.interval.proofs.Seeks.{seeks_on, seeks_some, seeks_none}
+use Rattle.interval.proofs.Seeks.{seeks_some, seeks_none}
 use Rattle.interval.proofs.active.is_active.Goals as goal
-
-pub loop-i-init : goal.loop-i-init
-loop-i-init c = record { here = omega arith; most = c.least-m.ensures.exact; long = search (rules, unmapped); first = omega arith }
 
 pub returns-then-is_task : goal.returns-then-is_task
 returns-then-is_task c =
     let l = c.loop-i in
-    let a = c.args in let all = active_both a.t a.name true
-    (sym (seeks_some (task a.name) a.t _ l.i l.invariant (omega arith) (sym c.is_task.ensures.exact ∙ c.if-is_task.true))) in record { exact = all.0; model = all.1 }
-
-pub loop-i-preserved : goal.loop-i-preserved
-loop-i-preserved c =
-    let l = c.loop-i in
     let a = c.args in
-    seeks_on (task a.name) a.t _ l.i l.invariant (omega arith) (sym c.is_task.ensures.exact ∙ c.if-is_task.false)
+    let all = active_both a.t a.name true
+    (sym (seeks_some (task a.name) a.t _ l.i l.invariant (omega arith) (sym c.is_task.ensures.exact ∙ c.if-is_task.true))) in
+    record { exact = all.0; model = all.1 }
 
 pub returns : goal.returns
 returns c =
     let l = c.loop-i in
-    let a = c.args in let all = active_both a.t a.name false (sym (seeks_none (task a.name) a.t _ l.i l.invariant c.loop-i-test.false)) in record { exact = all.0; model = all.1 }
+    let a = c.args in
+    let all = active_both a.t a.name false (sym (seeks_none (task a.name) a.t _ l.i l.invariant c.loop-i-test.false)) in
+    record { exact = all.0; model = all.1 }

@@ -17,7 +17,11 @@ pub overflow_add-t : goal.overflow_add-t
 overflow_add-t c = omega (arith, room c)
 
 pub returns-then-is_done : goal.returns-then-is_done
-returns-then-is_done c = let all = define_put (programs c.args.t c.args.name (omega arith)) (search rules) _ c.rule-o.ensures _ c.is_done.ensures c.if-is_done.true in record { exact = all.0; model = all.1 }
+returns-then-is_done c =
+    let all = define_put (programs c.args.t c.args.name (omega arith)) (search rules) _ c.rule-o.ensures _ c.is_done.ensures c.if-is_done.true in
+    record { exact = all.0; model = all.1 }
 
 pub returns-else-is_done : goal.returns-else-is_done
-returns-else-is_done c = let all = define_same (programs c.args.t c.args.name (omega arith)) (search rules) _ c.rule-o.ensures _ c.is_done.ensures c.if-is_done.false in record { exact = all.0; model = all.1 }
+returns-else-is_done c =
+    let all = define_same (programs c.args.t c.args.name (omega arith)) (search rules) _ c.rule-o.ensures _ c.is_done.ensures c.if-is_done.false in
+    record { exact = all.0; model = all.1 }

@@ -1,3 +1,4 @@
+-- What is gathered, and behind it what is left, are the columns of all. Assumes nothing.
 use Rattle.std.proofs.Common.{◌-◌}
 use Rattle.interval.specs.Rows.{active}
 use Rattle.interval.specs.Dispatch.{program_of, terminal_of}

@@ -1,28 +1,20 @@
 -- `remove::remove` meets its contract: the loop is the one of `Removing`. Assumes nothing.
-use Rattle.std.proofs.Common.{◌-◌, refl, ap₂, arith, rules}
-use Rattle.base.specs.Laws.Removing.{removing_start, removing_on, removing_down, removed_none, removed_some, removed_all, removed_count}
+use Rattle.std.proofs.Common.{refl, ap₂}
+use Rattle.base.specs.Laws.Removing.{removing_on, removing_down, removed_none, removed_some, removed_all, removed_count}
 use Rattle.interval.specs.Rows.{out_row}
-use Rattle.interval.specs.Laws.Typed.{unmapped, counted}
+use Rattle.interval.specs.Laws.Typed.{counted}
 use Rattle.interval.specs.Laws.Remove.{removed, nothing_removed}
 use Rattle.interval.proofs.remove.remove.Goals as goal
 use Rattle.interval.proofs.remove.remove.Goals.{else-found, then-found}
-
-pub loop-i-init : goal.loop-i-init
-loop-i-init c = removing_start _ _ _ _ _ _ c.least-m.ensures.exact (search (rules, unmapped))
-
-pub overflow_sub-v : goal.overflow_sub-v
-overflow_sub-v c = omega (arith, (c.loop-i.invariant.some c.if-found.true).1)
 
 pub loop-i-preserved : goal.loop-i-preserved
 loop-i-preserved c =
     let v = c.loop-i.invariant in
     let h = c.loop-i-test.true in
-    elim c.if-found.branch [ then-found w ↦ rw (w.t-is, w.found-is, (v.some w.if-found.true).0) (removing_down v h out_row w.if-found.true) | else-found w ↦ rw (w.t-is, w.found-is, (v.none w.if-found.false).0) (removing_on v h out_row w.if-found.false) ]
-
-pub overflow_sub-t : goal.overflow_sub-t
-overflow_sub-t c =
-    let v = c.loop-i.invariant in
-    omega (arith, v.here, (v.some c.if-found-2.true).1)
+    elim c.if-found.branch [
+      | then-found w ↦ rw (w.t-is, w.found-is, (v.some w.if-found.true).0) (removing_down v h out_row w.if-found.true)
+      | else-found w ↦ rw (w.t-is, w.found-is, (v.none w.if-found.false).0) (removing_on v h out_row w.if-found.false)
+    ]
 
 pub returns-then-found-2 : goal.returns-then-found-2
 returns-then-found-2 c =

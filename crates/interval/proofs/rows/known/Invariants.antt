@@ -1,3 +1,4 @@
+-- The names passed are others. Assumes nothing.
 use Rattle.std.proofs.Common.{◌≡◌, ◌-◌, ◌≤◌, min, length, take, drop}
 use Rattle.base.specs.Lists.{has}
 use Rattle.interval.proofs.rows.known.Given as goal

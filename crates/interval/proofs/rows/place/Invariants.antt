@@ -1,3 +1,4 @@
+-- The rows passed do not have the name. Assumes nothing.
 use Rattle.std.proofs.Common.{◌-◌}
 use Rattle.interval.specs.Rows.{named}
 use Rattle.interval.proofs.Seeks.{Sought}

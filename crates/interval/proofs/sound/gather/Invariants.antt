@@ -1,3 +1,4 @@
+-- What is gathered, and behind it what the rows left have, is the column. Assumes nothing.
 use Rattle.std.proofs.Common.{◌-◌}
 use Rattle.interval.specs.Sound.{value_in, is_in}
 use Rattle.interval.proofs.Gathers.{Gathered}

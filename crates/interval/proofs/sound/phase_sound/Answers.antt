@@ -11,8 +11,3 @@ returns-in-Waiting c =
     let d : ℕ = c.in-Waiting.d in
     let e : c.wrapping_sub_u32.result ≡ to_go d a.register = to_go_wraps d a.register _ (omega arith) (omega arith) (omega arith) c.wrapping_sub_u32.ensures.value in
     c.ahead.ensures ∙ ap (λ (k : ℕ). leb 1 k && leb k 359_999_000) e ∙ sym (ap (phase_fits a.register a.len) c.in-Waiting.is)
-
-pub returns-in-Active : goal.returns-in-Active
-returns-in-Active c =
-    let a = c.args in
-    c.either.ensures ∙ sym (ap (phase_fits a.register a.len) c.in-Active.is)

@@ -1,3 +1,4 @@
+-- The rows passed are sound. Assumes nothing.
 use Rattle.std.proofs.Common.{◌≡◌, ◌-◌, ◌≤◌, min, length, drop}
 use Rattle.base.specs.Lists.{all}
 use Rattle.interval.specs.Table.{live}

@@ -19,24 +19,24 @@ returns-then-size-gt64 c = rw (ne_eqb _ _ c.if-name-eq-BLANK.false, le-ltb _ _ c
 pub returns-then-not-program : goal.returns-then-not-program
 unfolding ruling
 returns-then-not-program c =
-    rw (ne_eqb _ _ c.if-name-eq-BLANK.false, le-ltb _ _ c.if-interval-gt359999000.false, le-ltb _ _ c.if-size-gt64.false, c.if-not-program.true-raw)
+    rw (ne_eqb _ _ c.if-name-eq-BLANK.false, le-ltb _ _ c.if-interval-gt359999000.false, le-ltb _ _ c.if-size-gt64.false, c.if-not-program.true)
 
 pub returns-then-not-terminal : goal.returns-then-not-terminal
 unfolding ruling
 returns-then-not-terminal c =
-    rw (ne_eqb _ _ c.if-name-eq-BLANK.false, le-ltb _ _ c.if-interval-gt359999000.false, le-ltb _ _ c.if-size-gt64.false, c.if-not-program.false-raw, c.if-not-terminal.true-raw)
+    rw (ne_eqb _ _ c.if-name-eq-BLANK.false, le-ltb _ _ c.if-interval-gt359999000.false, le-ltb _ _ c.if-size-gt64.false, c.if-not-program.false, c.if-not-terminal.true)
 
 pub returns-then-taken : goal.returns-then-taken
 unfolding ruling
 returns-then-taken c =
-    rw (ne_eqb _ _ c.if-name-eq-BLANK.false, le-ltb _ _ c.if-interval-gt359999000.false, le-ltb _ _ c.if-size-gt64.false, c.if-not-program.false-raw, c.if-not-terminal.false-raw, c.if-taken.true)
+    rw (ne_eqb _ _ c.if-name-eq-BLANK.false, le-ltb _ _ c.if-interval-gt359999000.false, le-ltb _ _ c.if-size-gt64.false, c.if-not-program.false, c.if-not-terminal.false, c.if-taken.true)
 
 pub returns-then-count-ge32 : goal.returns-then-count-ge32
 unfolding ruling
 returns-then-count-ge32 c =
-    rw (ne_eqb _ _ c.if-name-eq-BLANK.false, le-ltb _ _ c.if-interval-gt359999000.false, le-ltb _ _ c.if-size-gt64.false, c.if-not-program.false-raw, c.if-not-terminal.false-raw, c.if-taken.false, le-leb _ _ c.if-count-ge32.true)
+    rw (ne_eqb _ _ c.if-name-eq-BLANK.false, le-ltb _ _ c.if-interval-gt359999000.false, le-ltb _ _ c.if-size-gt64.false, c.if-not-program.false, c.if-not-terminal.false, c.if-taken.false, le-leb _ _ c.if-count-ge32.true)
 
 pub returns : goal.returns
 unfolding ruling
 returns c =
-    rw (ne_eqb _ _ c.if-name-eq-BLANK.false, le-ltb _ _ c.if-interval-gt359999000.false, le-ltb _ _ c.if-size-gt64.false, c.if-not-program.false-raw, c.if-not-terminal.false-raw, c.if-taken.false, lt-leb _ _ c.if-count-ge32.false)
+    rw (ne_eqb _ _ c.if-name-eq-BLANK.false, le-ltb _ _ c.if-interval-gt359999000.false, le-ltb _ _ c.if-size-gt64.false, c.if-not-program.false, c.if-not-terminal.false, c.if-taken.false, lt-leb _ _ c.if-count-ge32.false)

@@ -1,5 +1,5 @@
 -- `start::start` meets its contract: the rows passed do not have the name. Assumes nothing.
-use Rattle.std.proofs.Common.{◌≡◌, ◌-◌, ◌^◌, ◌<◌, true, length, get_or, refl, ◌∙◌, arith, rules, lt-ltb, eq-eqb, ne_eqb}
+use Rattle.std.proofs.Common.{◌≡◌, true, length, get_or, refl, ◌∙◌, arith, lt-ltb, eq-eqb}
 use Rattle.base.specs.Lists.{first_at}
 use Rattle.base.specs.Bytes.{is_byte, is_bytes}
 use Rattle.base.specs.Laws.Keep.{all_by_get_d}
@@ -10,9 +10,8 @@ use Rattle.interval.specs.Table.{live}
 use Rattle.interval.specs.Rows.{named}
 use Rattle.interval.specs.declared.answers.Start.{Start}
 use Rattle.interval.specs.Start.{asked, ruled, if_done}
-use Rattle.interval.specs.Laws.Typed.{unmapped}
 use Rattle.interval.specs.Laws.Start.{Clear, StartBoth, start_same, start_facts, start_put, start_told, start_count}
-use Rattle.interval.proofs.Seeks.{seeks_on, seeks_hit, seeks_end}
+use Rattle.interval.proofs.Seeks.{seeks_hit, seeks_end}
 use Rattle.interval.proofs.start.start.Goals as goal
 use Rattle.interval.proofs.start.start.Goals.{After-rule-o, else-loop-i-test, then-loop-i-test+then-t-i}
 
@@ -29,10 +28,10 @@ told c =
     let a = c.args in
     -- where the search for the name ends
     let stop : l.i ≡ first_at (named a.name) (live a.t) =
-        elim c.loop-i-test.branch [
-          else-loop-i-test w ↦ seeks_end (named a.name) a.t _ l.i l.invariant w.loop-i-test.false
-        | then-loop-i-test+then-t-i w ↦ seeks_hit (named a.name) a.t _ l.i l.invariant w.loop-i-test.true (eq-eqb _ _ w.if-t-i.true)
-        ] in
+    elim c.loop-i-test.branch [
+      | else-loop-i-test w ↦ seeks_end (named a.name) a.t _ l.i l.invariant w.loop-i-test.false
+      | then-loop-i-test+then-t-i w ↦ seeks_hit (named a.name) a.t _ l.i l.invariant w.loop-i-test.true (eq-eqb _ _ w.if-t-i.true)
+    ] in
     c.rule-o.ensures
     ∙ start_told a.t (wanted c) l.invariant.long c.known-p.result c.none_or_known-e.result l.i c.least-m.result
     c.known-p.ensures c.none_or_known-e.ensures stop c.least-m.ensures.exact
@@ -47,15 +46,6 @@ facts c e = start_facts c.args.t (wanted c) (omega arith) (bytes c) c.rule-o.res
 same : (c : After-rule-o) (x : Start) → c.rule-o.result ≡ x → ((u : Requests) → if_done x u c.args.t ≡ c.args.t)
     → StartBoth c.args.t (wanted c) (record { requests = c.args.t; outcome = c.rule-o.result })
 same c x e f = start_same c.args.t (wanted c) (omega arith) (bytes c) c.rule-o.result (told c) x e (f _)
-
-pub loop-i-init : goal.loop-i-init
-loop-i-init c = record { here = omega arith; most = c.least-m.ensures.exact; long = search (rules, unmapped); first = omega arith }
-
-pub loop-i-preserved : goal.loop-i-preserved
-loop-i-preserved c =
-    let l = c.loop-i in
-    let a = c.args in
-    seeks_on (named a.name) a.t _ l.i l.invariant (omega arith) (ne_eqb _ _ c.if-t-i.false)
 
 pub new_row-requires : goal.new_row-requires
 new_row-requires c = (facts (goal.at.new_row-requires c).After-rule-o c.in-Done.is).fits

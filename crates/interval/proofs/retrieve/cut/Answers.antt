@@ -1,9 +1,0 @@
--- `retrieve::cut` meets its contract. Assumes nothing.
-use Rattle.std.proofs.Common.{le-ltb, lt-ltb}
-use Rattle.interval.proofs.retrieve.cut.Goals as goal
-
-pub returns-then-room-full : goal.returns-then-room-full
-returns-then-room-full c = rw (lt-ltb _ _ c.if-room-full.true)
-
-pub returns : goal.returns
-returns c = rw (le-ltb _ _ c.if-room-full.false)
