@@ -48,7 +48,7 @@ said : (c : goal.In-Record-2
     → Record c.in-Record.start c.in-Record.next ≡ part_at (list c) c.loop-start.at
 said c = sym c.in-Record.is ∙ c.part_at.ensures.exact
 
-ahead : (c : goal.In-Record-2 → Ahead (list c) c.loop-start.at c.in-Record.start c.in-Record.next
+ahead : (c : goal.In-Record-2) → Ahead (list c) c.loop-start.at c.in-Record.start c.in-Record.next
 ahead c = (onward c.loop-start.invariant _ _ (said c)).ahead
 
 abbrev record_of : goal.In-Record-2 → List ℕ
@@ -60,7 +60,7 @@ before c = let g = c.loop-start in tables (parts g.requests g.queues g.tasks) g.
 
 -- ---- who may send it
 
-may : (c : goal.Joined-issuer-ne-SYSTEM → c.if-issuer-ne-SYSTEM.may ≡ allowed_in (before c.before.before.before.before).parts (record_of c.before.before.before.before)
+may : (c : goal.Joined-issuer-ne-SYSTEM) → c.if-issuer-ne-SYSTEM.may ≡ allowed_in (before c.before.before.before.before).parts (record_of c.before.before.before.before)
 may c =
     let t : Requests = (before c.before.before.before.before).parts.requests in
     let n = c.issuer-issuer.result in
@@ -79,7 +79,7 @@ may c =
 abbrev lane : goal.Joined-for_requests → Lane
 lane c = c.lane_of-lane.result
 
-asked : (c : goal.Joined-for_requests → asked_of c.if-for_requests.requests c.if-for_requests.said ≡ asked_by (lane c) (before c.before.before.before.before.before.before.before.before.before) (record_of c.before.before.before.before.before.before.before.before.before)
+asked : (c : goal.Joined-for_requests) → asked_of c.if-for_requests.requests c.if-for_requests.said ≡ asked_by (lane c) (before c.before.before.before.before.before.before.before.before.before) (record_of c.before.before.before.before.before.before.before.before.before)
 unfolding ask_of
 asked c =
     let t : Tables = before c.before.before.before.before.before.before.before.before.before in
@@ -102,7 +102,7 @@ asked c =
     w.5 w.6)
     (λ w. asked_not l t r (sym is ∙ w.0.left) w.1 (w.2 ∙ c.word_of-said.ensures.exact)) z) z) z) z) z) z) z ]
 
-stored : (c : goal.Joined-for_store →
+stored : (c : goal.Joined-for_store) →
     stored_of c.if-for_store.queues c.if-for_store.said c.if-for_store.items ≡ stored_by (lane c.before.before) (before c.before.before.before.before.before.before.before.before.before.before.before) (record_of c.before.before.before.before.before.before.before.before.before.before.before) c.if-for_requests.said
 unfolding store_ask
 stored c =
@@ -123,7 +123,7 @@ stored c =
     w.5 w.6 w.7)
     (λ w. stored_not l t r v (sym is ∙ w.0.left) w.1 w.2 w.3) z) z) z) z ]
 
-made : (c : goal.Joined-for_settings →
+made : (c : goal.Joined-for_settings) →
     made_of c.if-for_settings.tasks c.if-for_settings.said ≡ made_by (lane c.before.before.before.before) (before c.before.before.before.before.before.before.before.before.before.before.before.before.before) (record_of c.before.before.before.before.before.before.before.before.before.before.before.before.before) c.if-for_store.said
 made c =
     let t : Tables = before c.before.before.before.before.before.before.before.before.before.before.before.before.before in
@@ -136,7 +136,7 @@ abbrev kept : goal.Joined-for_settings → Held
 kept c =
     held c.if-for_requests.requests c.if-for_store.queues c.if-for_settings.tasks c.if-for_store.items c.if-for_settings.said
 
-by-lane : (c : goal.Joined-for_settings → kept c ≡ held_of (laned (lane c.before.before.before.before) (before c.before.before.before.before.before.before.before.before.before.before.before.before.before) (record_of c.before.before.before.before.before.before.before.before.before.before.before.before.before))
+by-lane : (c : goal.Joined-for_settings) → kept c ≡ held_of (laned (lane c.before.before.before.before) (before c.before.before.before.before.before.before.before.before.before.before.before.before.before) (record_of c.before.before.before.before.before.before.before.before.before.before.before.before.before))
 by-lane c = held_lane (lane c.before.before.before.before) (before c.before.before.before.before.before.before.before.before.before.before.before.before.before) (record_of c.before.before.before.before.before.before.before.before.before.before.before.before.before) _ _ _ (asked c.before.before.before.before) (stored c.before.before) (made c)
 
 -- ---- what the handlers decide, and the answer
@@ -144,13 +144,13 @@ by-lane c = held_lane (lane c.before.before.before.before) (before c.before.befo
 abbrev sender : goal.Joined-for_requests → ℕ
 sender c = c.issuer-issuer.result
 
-by-setting : (c : goal.Joined-decides → c.if-decides.by ≡ held_setting (lane c.before.before.before.before.before.before) (sender c.before.before.before.before.before.before) (kept c.before.before)
+by-setting : (c : goal.Joined-decides) → c.if-decides.by ≡ held_setting (lane c.before.before.before.before.before.before) (sender c.before.before.before.before.before.before) (kept c.before.before)
 by-setting c =
     let l : Lane = lane c.before.before.before.before.before.before in
     let n = sender c.before.before.before.before.before.before in
     elim c.if-decides.branch [ then-decides w ↦ decided l n (kept c.before.before) c.decides.result c.decides.ensures.exact w.if-decides.true (w.2 ∙ w.1.ensures.0) | else-decides w ↦ undecided l n (kept c.before.before) c.decides.result c.decides.ensures.exact w.if-decides.false w.1 ]
 
-ending : (c : goal.After-answered-a →
+ending : (c : goal.After-answered-a) →
     let v = c.judge-v.result in
     held_turned (kept c.before.before.before.before.before) c.if-v.requests c.if-v.tasks c.answered-a.result
     ≡ held_end (kept c.before.before.before.before.before) (sender c.before.before.before.before.before.before.before.before.before) v v.ends
@@ -174,7 +174,7 @@ stepped c =
     (by-setting c.before.before.before) c.judge-v.ensures.exact
 
 -- the type's own fact of the answer's bytes, which is all that is known of how many it has
-long : (c : goal.After-answered-a → length c.answered-a.result.bytes ≡ 64
+long : (c : goal.After-answered-a) → length c.answered-a.result.bytes ≡ 64
 long c = let k = c.answered-a.type-inv in search rules
 
 -- ---- the needs
