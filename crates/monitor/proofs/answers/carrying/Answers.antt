@@ -8,11 +8,11 @@ use Rattle.base.specs.Lists.{over}
 use Rattle.monitor.specs.declared.answers.Said.{Said}
 use Rattle.monitor.proofs.answers.carrying.Goals as goal
 
-abbrev saidIn : ℕ → ℕ → ℕ → List ℕ → Said
-saidIn c n k x = record { condition = c; number = n; len = k; bytes = x }
+abbrev said_in : ℕ → ℕ → ℕ → List ℕ → Said
+said_in c n k x = record { condition = c; number = n; len = k; bytes = x }
 
 pub returns : goal.returns
 returns c =
     let b : List ℕ = c.args.from.now in
     let e : c.lay.new.d ≡ over b (replicate 64 0) = c.lay.ensures.exact ∙ ap (λ (x : List ℕ). over x (replicate 64 0)) (take_all 64 b c.requires) in
-    ap (λ (x : List ℕ). saidIn c.args.condition c.args.number (length b) x) e
+    ap (λ (x : List ℕ). said_in c.args.condition c.args.number (length b) x) e

@@ -1,5 +1,6 @@
 -- `requests::ask` meets its contract: each arm knows the command's number. Assumes nothing.
 use mathlib.Core.Path.{ap, ◌∙◌}
+use native.Mathlib.Omega.{arith}
 use Rattle.interval.specs.Runs.{Ask, turn}
 use Rattle.monitor.specs.Requests.{asks, ask_of}
 use Rattle.monitor.proofs.Arms.{arm, last_arm}
@@ -43,6 +44,8 @@ returns-in-7 c =
 pub returns-in_default : goal.returns-in_default
 returns-in_default c =
     let a = c.args in
-    let m = c.in_default.in_default-own.rest in record { exact = c.retrieve.ensures.exact
-    ∙ ap (λ (q : Ask). asks (turn a.t q))
-    (last_arm a.rec.now a.command m.0.0.0.0.0.0.1 m.0.0.0.0.0.1 m.0.0.0.0.1 m.0.0.0.1 m.0.0.1 m.0.1 m.1) }
+    record {
+      exact = c.retrieve.ensures.exact
+          ∙ ap (λ (q : Ask). asks (turn a.t q))
+          (last_arm a.rec.now a.command (λ e. omega arith) (λ e. omega arith) (λ e. omega arith) (λ e. omega arith) (λ e. omega arith) (λ e. omega arith) (λ e. omega arith));
+    }

@@ -6,5 +6,7 @@ use Rattle.interval.specs.Runs.{cancelled_of}
 use Rattle.monitor.proofs.requests.cancel.Goals as goal
 
 pub returns : goal.returns
-returns c = record { exact = told cancelled_of (c.cancel-d.ensures.exact ∙ ap (cancel_in c.args.t) c.name_at.ensures.exact)
-    (plainly c.cancel_code.ensures c.plain.ensures.exact) }
+returns c = record {
+  exact = told cancelled_of (c.cancel-d.ensures.exact ∙ ap (cancel_in c.args.t) c.name_at.ensures.exact)
+      (plainly c.cancel_code.ensures c.plain.ensures.exact);
+}

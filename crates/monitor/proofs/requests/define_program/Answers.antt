@@ -6,5 +6,7 @@ use Rattle.monitor.proofs.Asking.{told, plainly}
 use Rattle.monitor.proofs.requests.define_program.Goals as goal
 
 pub returns : goal.returns
-returns c = record { exact = told defined_of (c.define_program-d.ensures.exact ∙ ap (define_program c.args.t) c.number4_at.ensures.exact)
-    (plainly c.define_code.ensures c.plain.ensures.exact) }
+returns c = record {
+  exact = told defined_of (c.define_program-d.ensures.exact ∙ ap (define_program c.args.t) c.number4_at.ensures.exact)
+      (plainly c.define_code.ensures c.plain.ensures.exact);
+}

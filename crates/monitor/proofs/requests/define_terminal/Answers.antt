@@ -6,5 +6,7 @@ use Rattle.monitor.proofs.Asking.{told, plainly}
 use Rattle.monitor.proofs.requests.define_terminal.Goals as goal
 
 pub returns : goal.returns
-returns c = record { exact = told defined_of (c.define_terminal-d.ensures.exact ∙ ap (define_terminal c.args.t) c.number4_at.ensures.exact)
-    (plainly c.define_code.ensures c.plain.ensures.exact) }
+returns c = record {
+  exact = told defined_of (c.define_terminal-d.ensures.exact ∙ ap (define_terminal c.args.t) c.number4_at.ensures.exact)
+      (plainly c.define_code.ensures c.plain.ensures.exact);
+}

@@ -9,4 +9,4 @@ use Rattle.monitor.proofs.requests.handing.Goals as goal
 pub returns : goal.returns
 returns c =
     let a = c.args in
-    c.carrying.ensures ∙ ap (λ (n : ℕ). saying a.condition a.full (take n a.t4)) (sub-zero a.len)
+    c.carrying.ensures ∙ ap (λ (n : ℕ). saying a.condition a.full (take n a.bytes)) (sub-zero a.len)

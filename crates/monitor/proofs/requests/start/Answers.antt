@@ -6,9 +6,11 @@ use Rattle.interval.specs.Runs.{started_of}
 use Rattle.monitor.proofs.requests.start.Goals as goal
 
 pub returns : goal.returns
-returns c = record { exact = told started_of
-    (c.start-s.ensures.exact
-    ∙ ap (start_in c.args.t)
-    (read_alike c.name_at-name.ensures.exact c.number4_at-program.ensures.exact c.number4_at-terminal.ensures.exact
-    c.number4_at-ticks.ensures.exact c.rest_at.ensures.exact))
-    (plainly c.start_code.ensures c.plain.ensures.exact) }
+returns c = record {
+  exact = told started_of
+      (c.start-s.ensures.exact
+      ∙ ap (start_in c.args.t)
+      (read_alike c.name_at-name.ensures.exact c.number4_at-program.ensures.exact c.number4_at-terminal.ensures.exact
+      c.number4_at-ticks.ensures.exact c.rest_at.ensures.exact))
+      (plainly c.start_code.ensures c.plain.ensures.exact);
+}

@@ -2,6 +2,7 @@
 use mathlib.Core.Path.{◌≡◌, refl, sym, ap, ap₂, ◌∙◌}
 use Prim.Native.Nat.{ℕ}
 use mathlib.Core.List.{List}
+use native.Mathlib.Omega.{arith}
 use borrow.Author.Tests.{ne_eqb}
 use Rattle.model.specs.Commands.{issuer, operand}
 use Rattle.handlers.specs.declared.Tasks.{Tasks}
@@ -40,4 +41,4 @@ pub returns-in_default : goal.returns-in_default
 returns-in_default c =
     let a = c.args in
     let e : c.reset.result ≡ reset_in a.t (issuer a.rec.now) (operand 0 1 a.rec.now) =
-    c.reset.ensures.exact ∙ ap₂ (reset_in a.t) c.issuer-task.ensures.exact c.number1_at-condition.ensures.exact in record { exact = c.set-in_default.ensures ∙ ap made e ∙ ap sets (sym (other a.t _ a.rec.now c.in_default.in_default-own.rest.0.1 c.in_default.in_default-own.rest.1)) }
+    c.reset.ensures.exact ∙ ap₂ (reset_in a.t) c.issuer-task.ensures.exact c.number1_at-condition.ensures.exact in record { exact = c.set-in_default.ensures ∙ ap made e ∙ ap sets (sym (other a.t a.command a.rec.now (λ e. omega arith) (λ e. omega arith))) }

@@ -1,7 +1,6 @@
 -- `sound::sound` meets its contract. Assumes nothing.
 use mathlib.Core.Path.{◌≡◌, refl, sym, ◌∙◌}
 use mathlib.Core.Bool.{true, false}
-use borrow.Author.Tests.{not-true, not-false}
 use Rattle.base.specs.Lists.{all}
 use Rattle.interval.specs.Active.{active_in}
 use Rattle.interval.specs.Stands.{sound_r}
@@ -30,16 +29,20 @@ module _ (p : Parts) where
   parts-sound a b d = rw (a, b, d) refl
 
 pub returns-then-not-sound : goal.returns-then-not-sound
-returns-then-not-sound c = record { exact = bad-requests _ (sym c.sound.ensures.exact ∙ not-true _ c.if-not-sound.true-raw) }
+returns-then-not-sound c = record { exact = bad-requests _ (sym c.sound.ensures.exact ∙ c.if-not-sound.true) }
 
 pub returns-then-not-sound-2 : goal.returns-then-not-sound-2
-returns-then-not-sound-2 c = record { exact = bad-queues _ (sym c.sound.ensures.exact ∙ not-false _ c.if-not-sound.false-raw) (sym c.sound-2.ensures.exact ∙ not-true _ c.if-not-sound-2.true-raw) }
+returns-then-not-sound-2 c = record { exact = bad-queues _ (sym c.sound.ensures.exact ∙ c.if-not-sound.false) (sym c.sound-2.ensures.exact ∙ c.if-not-sound-2.true) }
 
 pub returns-then-not-sound-3 : goal.returns-then-not-sound-3
-returns-then-not-sound-3 c = record { exact = bad-tasks _ (sym c.sound.ensures.exact ∙ not-false _ c.if-not-sound.false-raw) (sym c.sound-2.ensures.exact ∙ not-false _ c.if-not-sound-2.false-raw)
-    (sym c.sound-3.ensures.exact ∙ not-true _ c.if-not-sound-3.true-raw) }
+returns-then-not-sound-3 c = record {
+  exact = bad-tasks _ (sym c.sound.ensures.exact ∙ c.if-not-sound.false) (sym c.sound-2.ensures.exact ∙ c.if-not-sound-2.false)
+      (sym c.sound-3.ensures.exact ∙ c.if-not-sound-3.true);
+}
 
 pub returns : goal.returns
-returns c = record { exact = c.all_active.ensures
-    ∙ parts-sound _ (sym c.sound.ensures.exact ∙ not-false _ c.if-not-sound.false-raw) (sym c.sound-2.ensures.exact ∙ not-false _ c.if-not-sound-2.false-raw)
-    (sym c.sound-3.ensures.exact ∙ not-false _ c.if-not-sound-3.false-raw) }
+returns c = record {
+  exact = c.all_active.ensures
+      ∙ parts-sound _ (sym c.sound.ensures.exact ∙ c.if-not-sound.false) (sym c.sound-2.ensures.exact ∙ c.if-not-sound-2.false)
+      (sym c.sound-3.ensures.exact ∙ c.if-not-sound-3.false);
+}

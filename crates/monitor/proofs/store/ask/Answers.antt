@@ -1,6 +1,7 @@
 -- `store::ask` meets its contract: an arm knows the number, and the number what is asked. Assumes nothing.
 use mathlib.Core.Path.{sym, ap, ◌∙◌}
 use Prim.Native.Nat.{ℕ}
+use native.Mathlib.Omega.{arith}
 use mathlib.Core.List.{List}
 use Rattle.queues.specs.declared.Queues.{Queues}
 use Rattle.queues.specs.Laws.Runs.{Ask, store, turn}
@@ -34,5 +35,7 @@ returns-in-13 c =
 pub returns-in_default : goal.returns-in_default
 returns-in_default c =
     let a = c.args in
-    let u = c.in_default.in_default-own.rest in record { exact = c.delete.ensures.exact a.items.now
-    ∙ ap (λ (k : Ask). stores (turn (store a.q a.items.now) k)) (last_store_arm a.rec.now _ u.0.0.0.1 u.0.0.1 u.0.1 u.1) }
+    record {
+      exact = c.delete.ensures.exact a.items.now
+          ∙ ap (λ (k : Ask). stores (turn (store a.q a.items.now) k)) (last_store_arm a.rec.now a.command (λ e. omega arith) (λ e. omega arith) (λ e. omega arith) (λ e. omega arith));
+    }

@@ -8,27 +8,27 @@ use Rattle.turn_rules.specs.Tables.{Tables, tables_of}
 use Rattle.runs.proofs.Ended as ended
 use Rattle.runs.proofs.run.run_on.Goals as goal
 
--- what is lent
-abbrev t : goal.After-frame → Tables
-t f = let a = f.args in tables_of a.programs.now a.terminals.now a.requests.now a.area.now a.queues.now a.items.now a.settings.now
-
--- what framing said of an accepted list
-said : (c : goal.In-Framed-2) → Accepted c.in-Framed.records c.in-Framed.start ≡ framing (framed c.args.list.now)
-said c = sym c.in-Framed.is ∙ c.frame.ensures.exact
-
 pub returns-then-out-records : goal.returns-then-out-records
 returns-then-out-records c =
-    let a = c.args in record { exact = c.refused-then-out-records.ensures (t c.before.before.before.before.before) a.out.now ∙ ended.short a.list.now (t c.before.before.before.before.before) a.out.now _ _ (said c.before.before.before) (omega arith) }
+    let a = c.args in
+    let t = tables_of a.programs.now a.terminals.now a.requests.now a.area.now a.queues.now a.items.now a.settings.now in
+    record { exact = c.refused-then-out-records.ensures t a.out.now ∙ ended.short a.list.now t a.out.now _ _ c.in-Framed.ensures.exact (omega arith) }
 
 pub run-written-requires : goal.run-written-requires
 run-written-requires c =
-    let a = c.args in let enough = c.if-out-records.false in
-    ended.fitting a.list.now (t c.before.before.before.before.before.before.before.before.before.before.before.before.before.before.before.before.before.before.before.before.before.before.before.before.before.before.before.before) a.out.now _ _ (said c.before.before.before.before.before.before.before.before.before.before.before.before.before.before.before.before.before.before.before.before.before.before.before.before.before.before) (omega arith)
+    let a = c.args in
+    let t = tables_of a.programs.now a.terminals.now a.requests.now a.area.now a.queues.now a.items.now a.settings.now in
+    let enough = c.if-out-records.false in
+    ended.fitting a.list.now t a.out.now _ _ c.in-Framed.ensures.exact (omega arith)
 
 pub returns-in-Refused : goal.returns-in-Refused
 returns-in-Refused c =
-    let a = c.args in record { exact = c.refused.ensures (t c.before.before.before) a.out.now ∙ ended.not-framed a.list.now (t c.before.before.before) a.out.now (sym c.in-Refused.is ∙ c.frame.ensures.exact) }
+    let a = c.args in
+    let t = tables_of a.programs.now a.terminals.now a.requests.now a.area.now a.queues.now a.items.now a.settings.now in
+    record { exact = c.refused.ensures t a.out.now ∙ ended.not_framed a.list.now t a.out.now c.in-Refused.ensures.exact }
 
 pub returns-else-out-records : goal.returns-else-out-records
 returns-else-out-records c =
-    let a = c.args in let enough = c.if-out-records.false in record { exact = ended.ran a.list.now (t c.before.before.before.before.before.before.before.before.before.before.before.before.before.before.before.before.before.before.before.before.before.before.before.before.before.before.before.before.before.before.before.before.before.before.before.before.before.before.before.before.before.before.before.before.before) a.out.now _ _ (said c.before.before.before.before.before.before.before.before.before.before.before.before.before.before.before.before.before.before.before.before.before.before.before.before.before.before.before.before.before.before.before.before.before.before.before.before.before.before.before.before.before.before.before) (omega arith) _ (c.fresh.ensures.exact a.area.now) _ c.run-written.ensures }
+    let a = c.args in
+    let t = tables_of a.programs.now a.terminals.now a.requests.now a.area.now a.queues.now a.items.now a.settings.now in
+    let enough = c.if-out-records.false in record { exact = ended.ran a.list.now t a.out.now _ _ c.in-Framed.ensures.exact (omega arith) _ (c.fresh.ensures.exact a.area.now) _ c.run-written.ensures }

@@ -22,4 +22,4 @@ returns-in-16 c =
 pub returns-in_default : goal.returns-in_default
 unfolding ask_settings
 returns-in_default c =
-    let a = c.args in let w = settings_of a.settings.now in record { exact = rw (ne_eqb _ _ c.in_default.in_default-own.rest.0.1, ne_eqb _ _ c.in_default.in_default-own.rest.1) (same _ _ _ a.body.now (c.reset.ensures.exact a.body.now) (ap (reset_in w a.issuer) c.number1_at-in_default.ensures.exact)); short = (let h = c.reset.ensures in omega arith) }
+    let a = c.args in let w = settings_of a.settings.now in record { exact = rw (ne_eqb a.command 15 (λ e. omega arith), ne_eqb a.command 16 (λ e. omega arith)) (same _ _ _ a.body.now (c.reset.ensures.exact a.body.now) (ap (reset_in w a.issuer) c.number1_at-in_default.ensures.exact)); short = (let h = c.reset.ensures in omega arith) }
