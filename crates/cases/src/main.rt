@@ -4,49 +4,43 @@
 #![tactic(auto)]
 
 ghost use Rattle.std.specs.Prelude.{◌<◌};
-ghost use Rattle.io.specs.Counts.{IsPrefixLen};
+ghost use Rattle.std.specs.Counts.{IsPrefixLen};
 
-use libc::{STDERR_FILENO, STDIN_FILENO, STDOUT_FILENO};
 use printed::form::form;
+use std::io::Read;
 
 // Two digits for each byte of a list that is one byte too long: what stands behind them in its line changes nothing.
 const LINE: usize = 8194;
 
-// A proved loop has to end, and nothing says that its input does: it counts its turns down, from a number that no run uses up.
-fn main() {
-    let mut space = io::large_buffer();
-    let chunk: &mut [u8] = &mut space;
-    let mut held = [0u8; LINE];
-    let line: &mut [u8] = &mut held;
+// A proved loop has to end, and nothing says that its input does: it has more turns than any run uses up.
+fn main(rt: HostRuntime) {
+    let mut input = rt.stdin();
+    let mut chunk = [0u8; 65536];
+    let mut line = [0u8; LINE];
     let mut n: usize = 0;
-    let mut turns = u64::MAX;
-    while turns > 0 {
-        let got = io::count(libc::read(STDIN_FILENO, chunk), chunk);
-        if got == 0 {
-            break;
+    for _ in 0..u64::MAX {
+        match input.read(&mut chunk) {
+            Ok(got) if got > 0 => n = serve(&rt, &chunk[..got], &mut line, n),
+            _ => break,
         }
-        n = serve(&chunk[..got], line, n);
-        turns = turns - 1;
     }
     if n > 0 {
-        answer(line, n);
+        answer(&rt, &line, n);
     }
 }
 
 // Answers each line that ends in the chunk. The first n bytes of `line` are a line begun before; returns how many are begun behind.
-fn serve(chunk: &[u8], line: &mut [u8], n: usize) -> usize {
+fn serve(rt: &(impl Print + Eprint), chunk: &[u8], line: &mut [u8], n: usize) -> usize {
     let mut held = n;
-    let mut i: usize = 0;
-    while i < chunk.len() {
-        held = take(chunk[i], line, held);
-        i = i + 1;
+    for byte in chunk {
+        held = take(rt, *byte, line, held);
     }
     held
 }
 
-fn take(byte: u8, line: &mut [u8], n: usize) -> usize {
+fn take(rt: &(impl Print + Eprint), byte: u8, line: &mut [u8], n: usize) -> usize {
     if byte == b'\n' {
-        answer(line, n);
+        answer(rt, line, n);
         return 0;
     }
     if n < line.len() {
@@ -57,15 +51,15 @@ fn take(byte: u8, line: &mut [u8], n: usize) -> usize {
 }
 
 // The first n bytes of the line are a list in hex.
-fn answer(line: &[u8], n: usize) {
+fn answer(rt: &(impl Print + Eprint), line: &[u8], n: usize) {
     let mut list = [0u8; 4097];
-    let mut text = io::large_buffer();
+    let mut text = [0u8; 65536];
     let size = bytes_of(line, n, &mut list);
     let k = form(&list[..size], &mut text);
-    if !io::write_all(STDOUT_FILENO, &text[..k]) {
-        io::write_all(STDERR_FILENO, b"cases: the answers could not be written\n");
+    if rt.write_all(&text[..k]).is_err() {
+        let _ = rt.eprintln("cases: the answers could not be written");
     }
-    io::write_all(STDOUT_FILENO, b".\n");
+    let _ = rt.write_all(b".\n");
 }
 
 // The bytes that n hex digits stand for; none where a digit is missing, is no digit, or has no room.

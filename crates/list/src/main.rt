@@ -6,43 +6,53 @@
 // without end does not keep the program.
 #![tactic(auto)]
 
-use libc::{STDERR_FILENO, STDIN_FILENO, STDOUT_FILENO};
+ghost use Rattle.std.specs.Counts.{IsPrefixLen};
+ghost use Rattle.std.specs.Prelude.{IfSome};
+
 use printed::form::form;
+use std::io;
+use std::io::Read;
 
-fn main() {
+fn main(rt: HostRuntime) {
+    let mut input = rt.stdin();
     let mut list = [0u8; 4097];
-    let mut rest = io::large_buffer();
-    let n = io::read_full(STDIN_FILENO, &mut list);
-    if libc::read(STDIN_FILENO, &mut rest) == 0 {
-        print_form(&list[..n]);
-    } else {
-        // the input goes on, or cannot be read
-        print_form(b"");
-        drop_rest();
+    match read_list(&mut input, &mut list) {
+        Some(n) => print_form(&rt, &list[..n]),
+        None => {
+            print_form(&rt, b"");
+            drop_rest(&mut input);
+        }
     }
 }
 
-// A program has no exit status of its own: what goes wrong is said.
-fn print_form(list: &[u8]) {
-    let mut text = io::large_buffer();
+// How many bytes the input has; none if it goes on behind the buffer, or cannot be read.
+fn read_list(input: &mut impl Read, list: &mut [u8]) -> Option<usize>
+    ensures { IfSome result (λ n. IsPrefixLen n list.new) }
+{
+    let mut n: usize = 0;
+    while n < list.len() {
+        match input.read(&mut list[n..]) {
+            Ok(0) => return Some(n),
+            Ok(got) => n += got,
+            Err(_) => return None,
+        }
+    }
+    let mut more = [0u8; 1];
+    match input.read(&mut more) {
+        Ok(0) => Some(n),
+        _ => None,
+    }
+}
+
+// What goes wrong is said; the exit status is 0 all the same.
+fn print_form(rt: &(impl Print + Eprint), list: &[u8]) {
+    let mut text = [0u8; 65536];
     let k = form(list, &mut text);
-    if !io::write_all(STDOUT_FILENO, &text[..k]) {
-        io::write_all(STDERR_FILENO, b"list: the answers could not be written\n");
+    if rt.write_all(&text[..k]).is_err() {
+        let _ = rt.eprintln("list: the answers could not be written");
     }
 }
 
-fn drop_rest() {
-    let mut space = io::large_buffer();
-    let rest: &mut [u8] = &mut space;
-    let mut most: usize = 67108864;
-    loop {
-        let got = io::count(libc::read(STDIN_FILENO, rest), rest);
-        if got == 0 {
-            return;
-        }
-        if got > most {
-            return;
-        }
-        most = most - got;
-    }
+fn drop_rest(input: &mut impl Read) {
+    let _ = io::copy(&mut input.take(67108864), &mut io::sink());
 }

@@ -1,3 +1,4 @@
 pub mod Counted
+pub mod Digits
 pub mod Printed
 pub mod Worked

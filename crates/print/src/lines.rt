@@ -1,7 +1,7 @@
 // "prints a line for each answer: place (from 1), condition, action, label and number in decimal, then the bytes in
 // lower-case hex or "-" if there are none, one space between."
 ghost use Rattle.std.specs.Prelude.{◌≡◌, [], ◌∷◌, ◌+◌, ◌≤◌, length, drop};
-ghost use Rattle.io.specs.Counts.{IsPrefixLen};
+ghost use Rattle.std.specs.Counts.{IsPrefixLen};
 ghost use Rattle.frames.specs.Writing.{written};
 ghost use Rattle.print.specs.Text.{laid, puts};
 ghost use Rattle.print.specs.Lines.{lines_of, refusal_line, line_of, answer_of, bytes_text, answer_size};

@@ -1,9 +1,10 @@
 // Text put behind text in a lent buffer, and cut where the buffer ends: the first `at` bytes of it are text so far.
 ghost use Rattle.std.specs.Prelude.{◌≡◌, [], ◌∷◌, ◌++◌, ◌<◌};
-ghost use Rattle.io.specs.Digits.{hex_digit_ascii as Digits·glyph};
 ghost use Rattle.frames.specs.Writing.{written};
-ghost use Rattle.print.specs.Text.{put as Text·put, puts, hex_of};
+ghost use Rattle.print.specs.Text.{put as Text·put, puts, hex_digit_ascii, hex_of};
 ghost use Rattle.print.specs.Lines.{word};
+
+use itoa::Buffer;
 
 // One byte.
 pub(crate) fn put(out: &mut [u8], at: usize, byte: u8) -> usize
@@ -33,15 +34,14 @@ pub(crate) fn put_all(out: &mut [u8], at: usize, bytes: &[u8]) -> usize
 pub(crate) fn put_word(out: &mut [u8], at: usize, n: u64) -> usize
     ensures { written result out.new ≡ puts (written at out.old) (word n) }
 {
-    let mut digits = [0u8; 20];
-    let k = io::decimal(n, &mut digits);
-    let end = put_all(out, at, &digits[..k]);
+    let mut digits = Buffer::new();
+    let end = put_all(out, at, digits.format(n).as_bytes());
     put(out, end, b' ')
 }
 
 fn glyph(digit: u8) -> u8
     requires { digit < 16 }
-    ensures { result ≡ Digits·glyph digit }
+    ensures { result ≡ hex_digit_ascii digit }
 {
     if digit < 10 { 48 + digit } else { 87 + digit }
 }

@@ -1,6 +1,6 @@
 // What the list program prints of a list.
 ghost use Rattle.std.specs.Prelude.{◌≡◌, min};
-ghost use Rattle.io.specs.Counts.{IsPrefixLen};
+ghost use Rattle.std.specs.Counts.{IsPrefixLen};
 ghost use Rattle.frames.specs.Writing.{written};
 ghost use Rattle.print.specs.Text.{laid};
 ghost use Rattle.printed.specs.Form.{formed};

@@ -1,6 +1,5 @@
-use mathlib.Core.Path.{◌≡◌}
-use Prim.Native.Nat.{◌-◌, ◌/◌, ◌≤◌}
-use lib.ListN.{length}
+-- `cases::bytes_of` is safe and ends. The bytes made are within the list.
+use Rattle.std.specs.Prelude.{◌≡◌, ◌-◌, ◌/◌, ◌≤◌, length}
 use Rattle.cases.proofs.bytes_of.Given as goal
 
 abbrev pub invariant-loop-i : goal.invariant-loop-i

@@ -8,10 +8,9 @@ use borrow.Author.Tests.{le-leb, lt-leb, leb-true}
 use Rattle.base.specs.Bytes.{num}
 use Rattle.base.specs.Choice.{pick}
 use Rattle.base.specs.Laws.Tests.{by_test, and_l, and_r}
-use Rattle.io.specs.Digits.{last_digits, IsDigitCount}
 use Rattle.frames.specs.Writing.{Written}
 use Rattle.model.specs.Commands.{Answer}
-use Rattle.print.specs.Text.{put, puts, decimal}
+use Rattle.print.specs.Text.{put, puts, last_digits, IsDigitCount, decimal}
 use Rattle.print.specs.Lines.{word, bytes_text, line_of, is_answer, answer_size, answer_of, answers_by}
 use Rattle.print.specs.Laws.Text.{puts_both, decimal_told}
 

@@ -1,15 +1,14 @@
 -- Text put byte by byte: how it appends, what a byte more of it is, and that it is text laid over the buffer; and a
 -- number's digits from a count of them. Assumes nothing.
 use Rattle.std.specs.Prelude.{ℕ, zero, suc, min, ◌+◌, ◌-◌, ◌^◌, ◌≤◌, ◌<◌, ◌≡◌, refl, List, [], ◌∷◌, ◌++◌, length, drop, set, get_or, ltb}
+use Rattle.std.specs.Counts.{IsPrefixLen}
 use Rattle.std.proofs.Math.Nat.{pow-le-pow_right}
 use Rattle.std.proofs.Common.{add-one, arith, sym, ap, ap₂, ◌∙◌, append-nil, append_assoc, length-append, drop_of_length-le, drop-cons, take_all, take_at, length-take-le, lt-ltb, le-ltb, ltb-true, ltb-false}
 use Rattle.base.specs.Lists.{over}
 use Rattle.base.specs.Laws.Tests.{by_test}
 use Rattle.base.specs.Laws.Over.{length_over, over_set}
-use Rattle.io.specs.Counts.{IsPrefixLen}
-use Rattle.io.specs.Digits.{last_digits, IsDigitCount}
 use Rattle.frames.specs.Writing.{Written, written}
-use Rattle.print.specs.Text.{put, puts, laid, places_from, decimal, hex_of}
+use Rattle.print.specs.Text.{put, puts, laid, last_digits, IsDigitCount, places_from, decimal, hex_of}
 
 -- ---- put
 
