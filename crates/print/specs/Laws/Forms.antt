@@ -12,8 +12,8 @@ use Rattle.model.specs.Limits.{Limits, Fit}
 use Rattle.model.specs.State.{State, empty_at, sound}
 use Rattle.model.specs.Commands.{step}
 use Rattle.model.specs.Lists.{Framed, bad, good, behind, whole, records, headed, framed, answers_from, encoded_all, refusal, answered, ran, run}
-use Rattle.model.specs.Laws.SoundStep.{empty_sound, step_sound}
-use Rattle.model.specs.Laws.Written.{step_proper}
+use Rattle.model.proofs.Laws.SoundStep.{empty_sound, step_sound}
+use Rattle.model.proofs.Laws.Written.{step_proper}
 use Rattle.print.specs.Lines.{lines_from, lines_of, refusal_line, form_of}
 use Rattle.print.specs.Laws.Decoded.{Propers, lines_back}
 

@@ -5,7 +5,7 @@ use Rattle.std.proofs.lemmas.List.{length-replicate}
 use Rattle.base.specs.Bytes.{is_bytes}
 use Rattle.model.specs.Limits.{cabinet}
 use Rattle.model.specs.Lists.{framed}
-use Rattle.model.specs.Laws.Itself.{cabinet_fits}
+use Rattle.model.proofs.Laws.Itself.{cabinet_fits}
 use Rattle.print.specs.Laws.Forms.{form_for, run_form}
 use Rattle.printed.specs.Form.{formed}
 
