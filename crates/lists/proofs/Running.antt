@@ -4,7 +4,6 @@ use mathlib.Core.Bool.{true}
 use mathlib.Core.List.{List, [], ◌++◌, append_assoc, append-nil}
 use Prim.Native.Nat.{ℕ, suc, ◌+◌, ◌*◌, ◌-◌, ◌≤◌}
 use native.Mathlib.Omega.{arith}
-use mathlib.Core.Logic.{◌⊎◌, ⊎_elim}
 use lib.Dec.{leb}
 use borrow.Author.Tests.{leb-true, leb-false}
 use lib.ListN.{length, take, drop, length-append}
@@ -51,15 +50,11 @@ module _ {l out₀ : List ℕ} {t₀ : Tables} {out : List ℕ} {t : Tables} {at
   pub running_long : length out ≡ length out₀
   running_long = ap length R.buffer ∙ length_over R.front out₀ (omega arith)
 
-  -- a reader that says no record stands at the end: tags are told apart by their numbers, and a record's is 0
-  pub running_end : (tag : Part → ℕ) → ((start next : ℕ) → tag (Record start next) ≡ 0) → (r : Part) → r ≡ part_at l at → (tag r ≡ 1) ⊎ (tag r ≡ 2)
-      → length l ≤ at
-  running_end tag zero r is other =
+  -- a reader that says no record stands at the end
+  pub running_end : (r : Part) → r ≡ part_at l at → ((start next : ℕ) → r ≡ Record start next → ⊥) → length l ≤ at
+  running_end r is other =
       by_test (leb (length l) at) (λ t. leb-true (length l) at t)
-      (λ t.
-      let e : r ≡ Record (at + 2) (next_at l at) = is ∙ filled_record l at R.filled (leb-false (length l) at t) in
-      let z : tag r ≡ 0 = ap tag e ∙ zero (at + 2) (next_at l at) in
-      absurd (⊎_elim (λ (a : tag r ≡ 1). omega arith) (λ (b : tag r ≡ 2). omega arith) other))
+      (λ t. absurd (other (at + 2) (next_at l at) (is ∙ filled_record l at R.filled (leb-false (length l) at t))))
 
   pub running_all : length l ≤ at → reply 0 w out ≡ answered (answers_on t₀ (records_from l 9)) out₀
   unfolding answers_on
