@@ -11,13 +11,13 @@ use Rattle.handlers.specs.declared.answers.Handled.{Handled}
 use Rattle.handlers.specs.declared.answers.Names.{Names}
 use Rattle.handlers.specs.Table.{setting_of, tasks_of, sound_h}
 use Rattle.handlers.specs.Fresh.{no_tasks, Fresh}
-use Rattle.handlers.specs.Laws.Kept.{none_fresh}
+use Rattle.handlers.proofs.Laws.Kept.{none_fresh}
 use Rattle.handlers.specs.Set.{handle_in, ignore_in, reset_in, room, Done}
 use Rattle.handlers.specs.Decide.{decide_in}
 use Rattle.handlers.specs.Forget.{forget_in, Forgotten}
 use Rattle.handlers.specs.Names.{names_in}
 use Rattle.handlers.specs.Laws.Standing.{names_listed}
-use Rattle.handlers.specs.Laws.Set.{handle_done, ignore_done, reset_done}
+use Rattle.handlers.proofs.Laws.Set.{handle_done, ignore_done, reset_done}
 use Rattle.handlers.specs.Laws.Decide.{decide_stands}
 use Rattle.handlers.specs.Laws.Forget.{forget_done}
 

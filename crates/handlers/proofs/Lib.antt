@@ -3,3 +3,4 @@ pub mod RowSound
 pub mod Coded
 pub mod Clauses
 pub mod Told
+pub mod Laws

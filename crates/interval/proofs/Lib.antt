@@ -4,3 +4,4 @@ pub mod Gathers
 pub mod SoundLaws
 pub mod SoundLawsWhole
 pub mod Told
+pub mod Laws

@@ -3,16 +3,6 @@ pub mod Clock
 pub mod Every
 pub mod Typed
 pub mod Ties
-pub mod Standing
-pub mod Remove
-pub mod Cancel
-pub mod Active
 pub mod Fresh
 pub mod Define
-pub mod Start
-pub mod Dispatch
-pub mod Retrieve
 pub mod Advance
-pub mod Kept
-pub mod Runs
-pub mod Moved

@@ -15,7 +15,7 @@ use Rattle.base.specs.Laws.Scans.{left_cons, left_end}
 use Rattle.slots.specs.declared.Used.{Used}
 use Rattle.slots.specs.Bits.{bit, number, used_at, cleared}
 use Rattle.slots.specs.Told.{Typed}
-use Rattle.slots.specs.Laws.Slots.{used_bit, bit_slot, cleared_bit, cleared_typed}
+use Rattle.slots.proofs.Laws.Slots.{used_bit, bit_slot, cleared_bit, cleared_typed}
 use Rattle.queues.specs.declared.Queues.{Queues}
 use Rattle.queues.specs.Table.{names_of, pointers_of, entries, owners, places}
 use Rattle.queues.specs.Sound.{pointed, length_in, sound_q}

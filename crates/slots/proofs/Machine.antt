@@ -10,8 +10,8 @@ use lib.Pow.{pow_pos, shr-shr, shl_exact}
 use Rattle.slots.specs.Bits.{bit, with_bit, number, lowest_clear}
 use Rattle.slots.specs.Told.{Typed}
 use Rattle.slots.specs.Laws.Digits.{bit_le, part_le}
-use Rattle.slots.specs.Laws.Lowest.{Lowest, lowest_one}
-use Rattle.slots.specs.Laws.Words.{cat_lowest_low, cat_lowest_high}
+use Rattle.slots.proofs.Laws.Lowest.{Lowest, lowest_one}
+use Rattle.slots.proofs.Laws.Words.{cat_lowest_low, cat_lowest_high}
 use Rattle.slots.specs.declared.Used.{Used}
 
 pub bit_shifted : (w k : ℕ) → w / 2 ^ k % 2 ≡ bit w k

@@ -1,15 +1,7 @@
 pub mod Kept
-pub mod TurnKept
 pub mod Fine
 pub mod Room
 pub mod Sender
 pub mod Parts
-pub mod Deeds
-pub mod Step
-pub mod Fresh
 pub mod Sizes
-pub mod Every
-pub mod Held
-pub mod Demands
-pub mod Run
 pub mod Lent

@@ -4,5 +4,3 @@ pub mod Turn
 pub mod Standing
 pub mod Run
 pub mod Laws
-pub mod Monitor
-pub mod Examples

@@ -19,16 +19,16 @@ use Rattle.model.proofs.Laws.SoundStep.{active_issuer}
 use Rattle.interval.specs.Stands.{interval_at, Means, sound_r}
 use Rattle.interval.specs.Runs as interval
 use Rattle.interval.specs.Laws.Clock.{sound_view}
-use Rattle.interval.specs.Laws.Kept.{turn_typed, remove_typed}
-use Rattle.interval.specs.Laws.Remove.{remove_done}
-use Rattle.interval.specs.Laws.Runs as interval-runs
+use Rattle.interval.proofs.Laws.Kept.{turn_typed, remove_typed}
+use Rattle.interval.proofs.Laws.Remove.{remove_done}
+use Rattle.interval.proofs.Laws.Runs as interval-runs
 use Rattle.queues.specs.Model.{queues_of}
 use Rattle.queues.specs.Laws.Runs as queues
 use Rattle.handlers.specs.Set as settings
 use Rattle.handlers.specs.Table.{tasks_of, sound_h}
 use Rattle.handlers.specs.Laws.Forget.{forget_done}
-use Rattle.handlers.specs.Laws.Kept.{handle_typed, ignore_typed, reset_typed, forget_typed}
-use Rattle.handlers.specs.Laws.Set.{handle_done, ignore_done, reset_done}
+use Rattle.handlers.proofs.Laws.Kept.{handle_typed, ignore_typed, reset_typed, forget_typed}
+use Rattle.handlers.proofs.Laws.Set.{handle_done, ignore_done, reset_done}
 use Rattle.handlers.specs.Laws.Every as settings-typed
 use Rattle.handlers.specs.declared.Tasks.{Tasks}
 use Rattle.handlers.specs.declared.answers.Handled.{Handled}

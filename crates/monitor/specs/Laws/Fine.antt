@@ -17,15 +17,15 @@ use Rattle.interval.specs.Fresh.{fresh_at}
 use Rattle.interval.specs.Rows.{no_row}
 use Rattle.interval.specs.Stands.{sound_r, interval_at}
 use Rattle.interval.specs.Typed as requests
-use Rattle.interval.specs.Laws.Active.{active_both}
+use Rattle.interval.proofs.Laws.Active.{active_both}
 use Rattle.interval.specs.Laws.Fresh as requests-fresh
-use Rattle.interval.specs.Laws.Kept as requests-kept
+use Rattle.interval.proofs.Laws.Kept as requests-kept
 use Rattle.queues.specs.Sound.{sound_q}
 use Rattle.queues.specs.Laws.Fresh as queues-fresh
 use Rattle.queues.specs.Laws.Kept as queues-kept
 use Rattle.handlers.specs.Table.{sound_h, tasks_of}
 use Rattle.handlers.specs.Laws.Every as settings
-use Rattle.handlers.specs.Laws.Kept as settings_kept
+use Rattle.handlers.proofs.Laws.Kept as settings_kept
 use Rattle.monitor.specs.declared.Parts.{Parts}
 use Rattle.monitor.specs.declared.Tables.{Tables}
 use Rattle.monitor.specs.Table.{tables, fresh_tables, fresh_parts, no_items, state_at, settled, sound_p, Fresh}

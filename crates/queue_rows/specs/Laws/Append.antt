@@ -10,7 +10,7 @@ use Rattle.base.specs.Lists.{has, copies}
 use Rattle.base.specs.Bytes.{blank}
 use Rattle.base.specs.Laws.Tests.{pick_elim}
 use Rattle.slots.specs.Bits.{free_for}
-use Rattle.slots.specs.Laws.Free.{free_at, free_full}
+use Rattle.slots.proofs.Laws.Free.{free_at, free_full}
 use Rattle.slots.specs.declared.Used.{Used}
 use Rattle.slots.specs.declared.Slot.{Slot}
 use Rattle.slots.specs.declared.Slot.TheVariants.{At, Full}

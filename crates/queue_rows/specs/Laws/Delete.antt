@@ -16,7 +16,7 @@ use Rattle.base.specs.Laws.Cut.{length_cut}
 use Rattle.base.specs.Laws.Counting.{has_none, has_some, once_copies}
 use Rattle.slots.specs.Bits.{bit, number, used_at}
 use Rattle.slots.specs.Laws.Digits.{bit_le}
-use Rattle.slots.specs.Laws.Slots.{used_bit}
+use Rattle.slots.proofs.Laws.Slots.{used_bit}
 use Rattle.model.specs.Plans.{unknown_queue, invalid_request, Plan, Outcome, fault, done, outcome_in, Follows}
 use Rattle.model.specs.Queues.{Queue, delete}
 use Rattle.queue_rows.specs.Table.{Queues, rows_in, slots_in, names_of, pointers_of, entries, owners, places, row_of, slots_of, slots_named, contents, Store, store}

@@ -5,8 +5,8 @@ use Rattle.std.specs.Int.Count.{ones, ones_step}
 use Rattle.base.specs.Laws.Tests.{eqb_same, pick_same}
 use Rattle.slots.specs.Bits.{bit, number, used_at, free_for, marked}
 use Rattle.slots.specs.Told.{Typed}
-use Rattle.slots.specs.Laws.Slots.{used_bit, marked_bit, marked_typed}
-use Rattle.slots.specs.Laws.Free.{free_at}
+use Rattle.slots.proofs.Laws.Slots.{used_bit, marked_bit, marked_typed}
+use Rattle.slots.proofs.Laws.Free.{free_at}
 use Rattle.slots.specs.declared.Used.{Used}
 use Rattle.slots.specs.declared.Slot.TheVariants.{At}
 use Rattle.queue_rows.specs.Table.{Queues, slots_in, entries}

@@ -14,8 +14,8 @@ use Rattle.base.specs.Laws.Over.{all_over}
 use Rattle.base.specs.Laws.Stored.{length_stored}
 use Rattle.slots.specs.Bits.{cleared}
 use Rattle.slots.specs.Told as told
-use Rattle.slots.specs.Laws.Slots.{none_typed, cleared_typed, marked_typed}
-use Rattle.slots.specs.Laws.Free.{free_at}
+use Rattle.slots.proofs.Laws.Slots.{none_typed, cleared_typed, marked_typed}
+use Rattle.slots.proofs.Laws.Free.{free_at}
 use Rattle.slots.specs.declared.Used.{Used}
 use Rattle.slots.specs.declared.Slot.{Slot}
 use Rattle.slots.specs.declared.Slot.TheVariants.{At, Full}

@@ -19,7 +19,7 @@ use Rattle.base.specs.Laws.Keep.{all_append, all_imp, all_none}
 use Rattle.base.specs.Laws.Maps.{map-append, map_all_same}
 use Rattle.base.specs.Laws.Counting.{once_snoc, within_append, copies_append}
 use Rattle.slots.specs.Bits.{used_at, marked}
-use Rattle.slots.specs.Laws.Slots.{marked_held}
+use Rattle.slots.proofs.Laws.Slots.{marked_held}
 use Rattle.model.specs.Queues.{at_queue, longer}
 use Rattle.queue_rows.specs.Table.{Queues, slots_in, names_of, pointers_of, entries, owners, places, slots_named, slots_of, contents, store}
 use Rattle.queue_rows.specs.Model.{items_of, queues_of}

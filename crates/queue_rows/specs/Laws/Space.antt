@@ -7,7 +7,7 @@ use Rattle.base.specs.Lists.{has, copies}
 use Rattle.base.specs.Bytes.{blank}
 use Rattle.base.specs.Laws.Tests.{by_test, no, both, pick_elim}
 use Rattle.base.specs.Laws.Keep.{first_at_lt}
-use Rattle.slots.specs.Laws.Free.{free_some, free_at, free_full}
+use Rattle.slots.proofs.Laws.Free.{free_some, free_at, free_full}
 use Rattle.slots.specs.declared.Slot.{Slot}
 use Rattle.slots.specs.declared.Slot.TheVariants.{At, Full}
 use Rattle.model.specs.Plans.{normal, no_space, Outcome}

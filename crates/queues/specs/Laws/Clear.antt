@@ -7,7 +7,7 @@ use Rattle.base.specs.Lists.{copies}
 use Rattle.base.specs.Laws.Tests.{by_test, eqb_same, eqb_sym}
 use Rattle.slots.specs.Bits.{bit, number, held, cleared}
 use Rattle.slots.specs.Told.{Typed}
-use Rattle.slots.specs.Laws.Slots.{cleared_typed, cleared_bit, cleared_held, bit_slot}
+use Rattle.slots.proofs.Laws.Slots.{cleared_typed, cleared_bit, cleared_held, bit_slot}
 use Rattle.slots.specs.Laws.Digits.{bit_le}
 use Rattle.slots.specs.declared.Used.{Used}
 use Rattle.queues.specs.Delete.{clear_all}

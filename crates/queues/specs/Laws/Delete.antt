@@ -14,7 +14,7 @@ use Rattle.base.specs.Laws.Keep.{all_replicate, first_at_lt}
 use Rattle.base.specs.Laws.Counting.{has_none, has_some, once_copies, within_says}
 use Rattle.slots.specs.Bits.{bit, number, used_at}
 use Rattle.slots.specs.Laws.Digits.{bit_le}
-use Rattle.slots.specs.Laws.Slots.{used_bit}
+use Rattle.slots.proofs.Laws.Slots.{used_bit}
 use Rattle.model.specs.Limits.{cabinet}
 use Rattle.model.specs.Plans.{first_of}
 use Rattle.model.specs.Queues.{Queue, queue_of, sound_queues, delete}

@@ -20,7 +20,7 @@ use Rattle.base.specs.Laws.Bytes.{is_bytes_append, is_bytes_drop}
 use Rattle.base.specs.Laws.Over.{length_over, take_over, over_front}
 use Rattle.slots.specs.Bits.{bit, number, none, held, used_at, marked}
 use Rattle.slots.specs.Told as told
-use Rattle.slots.specs.Laws.Slots.{none_typed, none_held, none_bit, marked_typed, marked_bit, marked_held, used_bit}
+use Rattle.slots.proofs.Laws.Slots.{none_typed, none_held, none_bit, marked_typed, marked_bit, marked_held, used_bit}
 use Rattle.slots.specs.declared.Used.{Used}
 use Rattle.model.specs.Limits.{cabinet, is_item}
 use Rattle.model.specs.Queues.{Queue, items_in, sound_queue, sound_queues}

@@ -3,7 +3,7 @@ use Rattle.std.specs.Prelude.{◌≡◌, refl, ℕ, zero, suc, ◌<◌, get_or, 
 use Rattle.std.proofs.Common.{sym, subst, arith}
 use Rattle.std.specs.Int.Count.{ones, ones_in}
 use Rattle.std.proofs.lemmas.List.{length-replicate}
-use Rattle.slots.specs.Laws.Slots.{none_typed}
+use Rattle.slots.proofs.Laws.Slots.{none_typed}
 use Rattle.queues.specs.declared.Queues.{Queues}
 use Rattle.queues.specs.Model.{queues_of}
 use Rattle.queues.specs.Sound.{sound_q}

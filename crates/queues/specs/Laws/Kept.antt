@@ -13,8 +13,8 @@ use Rattle.base.specs.Laws.Keep.{all_append, all_take, all_drop, all_keep, all_g
 use Rattle.base.specs.Laws.Over.{length_over}
 use Rattle.slots.specs.Bits.{cleared, free_for}
 use Rattle.slots.specs.Told as told
-use Rattle.slots.specs.Laws.Slots.{cleared_typed, marked_typed}
-use Rattle.slots.specs.Laws.Free.{free_at}
+use Rattle.slots.proofs.Laws.Slots.{cleared_typed, marked_typed}
+use Rattle.slots.proofs.Laws.Free.{free_at}
 use Rattle.slots.specs.declared.Used.{Used}
 use Rattle.slots.specs.declared.Slot.{Slot}
 use Rattle.slots.specs.declared.Slot.TheVariants.{At, Full}

@@ -20,7 +20,7 @@ use Rattle.base.specs.Laws.Counting.{once_snoc, within_append, copies_append}
 use Rattle.slots.specs.Bits.{bit, number, used_at, marked}
 use Rattle.slots.specs.Told.{Free}
 use Rattle.slots.specs.Told as told
-use Rattle.slots.specs.Laws.Slots.{used_bit, marked_bit, marked_held, marked_typed}
+use Rattle.slots.proofs.Laws.Slots.{used_bit, marked_bit, marked_held, marked_typed}
 use Rattle.slots.specs.declared.Used.{Used}
 use Rattle.model.specs.Queues.{at_queue, longer}
 use Rattle.queues.specs.declared.Queues.{Queues}

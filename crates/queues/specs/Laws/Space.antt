@@ -9,7 +9,7 @@ use Rattle.base.specs.Lists.{has, copies}
 use Rattle.base.specs.Bytes.{blank}
 use Rattle.base.specs.Laws.Tests.{by_test, no, and_l, and_r, pick_elim}
 use Rattle.slots.specs.Bits.{free_for}
-use Rattle.slots.specs.Laws.Free.{free_some, free_at, free_full}
+use Rattle.slots.proofs.Laws.Free.{free_some, free_at, free_full}
 use Rattle.slots.specs.declared.Slot.{Slot}
 use Rattle.slots.specs.declared.Slot.TheVariants.{At, Full}
 use Rattle.queues.specs.declared.Queues.{Queues}

@@ -6,7 +6,7 @@ use Rattle.std.specs.Int.{w8, w64}
 use Rattle.base.specs.Lists.{all}
 use Rattle.base.specs.Laws.Tests.{and_i}
 use Rattle.slots.specs.Told as told
-use Rattle.slots.specs.Laws.Slots.{held_le}
+use Rattle.slots.proofs.Laws.Slots.{held_le}
 use Rattle.queues.specs.declared.Queues.{Queues}
 use Rattle.queues.specs.Table.{rows_in, names_of, pointers_of, entries, owners, places}
 

@@ -14,9 +14,9 @@ use Rattle.slots.specs.Told.{Typed}
 use Rattle.slots.specs.declared.Used.{Used}
 use Rattle.slots.specs.declared.Slot.{Slot}
 use Rattle.slots.specs.declared.Slot.TheVariants.{At, Full}
-use Rattle.slots.specs.Laws.Slots.{none_typed, none_held, marked_bit, marked_typed, put_held, put_past}
-use Rattle.slots.specs.Laws.Lowest.{lowest_is}
-use Rattle.slots.specs.Laws.Free.{free_some, free_at}
+use Rattle.slots.proofs.Laws.Slots.{none_typed, none_held, marked_bit, marked_typed, put_held, put_past}
+use Rattle.slots.proofs.Laws.Lowest.{lowest_is}
+use Rattle.slots.proofs.Laws.Free.{free_some, free_at}
 use Rattle.request_rows.specs.Rows.{Row, slot_of}
 use Rattle.request_rows.specs.Table.{Requests, live, slots_in, spaces}
 use Rattle.request_rows.specs.Start.{used_from, slot_from, free_slot, room_in}

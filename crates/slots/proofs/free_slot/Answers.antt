@@ -6,7 +6,7 @@ use native.Mathlib.Omega.{arith}
 use borrow.Author.Rules.{rules}
 use Rattle.slots.specs.Bits.{free_for, held}
 use Rattle.slots.specs.Told.{Typed}
-use Rattle.slots.specs.Laws.Free.{free_some, free_none, found}
+use Rattle.slots.proofs.Laws.Free.{free_some, free_none, found}
 use Rattle.slots.specs.declared.Slot.TheVariants.{At, Full}
 use Rattle.slots.proofs.free_slot.Goals as goal
 use Rattle.slots.proofs.free_slot.Goals.{else-n-may-via-then-n-may+else-n-lt128, else-n-may-via-else-n-may}

@@ -6,7 +6,7 @@ use native.Mathlib.Omega.{arith}
 use borrow.Author.Rules.{rules}
 use borrow.Author.Tests.{lt-ltb, le-ltb}
 use Rattle.slots.specs.Bits.{bit, number, used_at}
-use Rattle.slots.specs.Laws.Words.{bit_low, bit_high}
+use Rattle.slots.proofs.Laws.Words.{bit_low, bit_high}
 use Rattle.slots.proofs.is_used.Goals as goal
 
 pub returns-then-k-lt64 : goal.returns-then-k-lt64

@@ -2,7 +2,7 @@
 use native.Mathlib.Omega.{arith}
 use borrow.Author.Rules.{rules}
 use Rattle.slots.specs.Told.{Typed}
-use Rattle.slots.specs.Laws.Slots.{put_alone}
+use Rattle.slots.proofs.Laws.Slots.{put_alone}
 use Rattle.slots.proofs.mark.Goals as goal
 
 pub returns : goal.returns

@@ -7,7 +7,7 @@ use lib.ListN.{take, drop, get_or}
 use Rattle.slots.specs.declared.Used.{Used}
 use Rattle.slots.specs.Bits.{cleared}
 use Rattle.slots.specs.Told.{Typed}
-use Rattle.slots.specs.Laws.Slots.{cleared_typed}
+use Rattle.slots.proofs.Laws.Slots.{cleared_typed}
 use Rattle.queue_sound.proofs.Drains.{drains, drained, drain_hit, drain_miss, drain_end}
 use Rattle.queue_sound.proofs.entries.slots_sound.Goals as goal
 

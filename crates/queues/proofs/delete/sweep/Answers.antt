@@ -5,7 +5,7 @@ use native.Mathlib.Omega.{arith}
 use borrow.Author.Rules.{rules}
 use lib.ListN.{length, take}
 use Rattle.slots.specs.Bits.{cleared}
-use Rattle.slots.specs.Laws.Slots.{held_le}
+use Rattle.slots.proofs.Laws.Slots.{held_le}
 use Rattle.slots.specs.declared.Used.{Used}
 use Rattle.queues.specs.Table.{entries}
 use Rattle.queues.specs.Delete.{others_than}

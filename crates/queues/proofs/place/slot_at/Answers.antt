@@ -6,7 +6,7 @@ use borrow.Author.Rules.{rules}
 use lib.ListN.{take}
 use Rattle.slots.specs.Bits.{held}
 use Rattle.slots.specs.Told.{Typed}
-use Rattle.slots.specs.Laws.Slots.{held_le}
+use Rattle.slots.proofs.Laws.Slots.{held_le}
 use Rattle.queues.specs.Table.{slots_of}
 use Rattle.queues.specs.Laws.Place.{counted, at_zero, at_past, at_long, at_slot}
 use Rattle.queues.proofs.place.slot_at.Goals as goal

@@ -8,7 +8,7 @@ use lib.ListN.{take, drop}
 use Rattle.slots.specs.declared.Used.{Used}
 use Rattle.slots.specs.Bits.{cleared}
 use Rattle.slots.specs.Told.{Typed}
-use Rattle.slots.specs.Laws.Slots.{cleared_typed}
+use Rattle.slots.proofs.Laws.Slots.{cleared_typed}
 use Rattle.queues.proofs.SoundLaws.{drains, drains_is, drain_hit, drain_miss, drain_end}
 use Rattle.queues.proofs.sound.slots_sound.Goals as goal
 

@@ -22,13 +22,13 @@ use Rattle.request_rows.specs.Stands.{interval_at}
 use Rattle.turn_rules.specs.Tables.{Tables}
 use Rattle.turn_rules.specs.Turn.{sender_in}
 use Rattle.turn_rules.specs.Standing.{state_at, StandsFor, sound_t, step_of, Sizes, limits, cabinet_sizes, Fit}
-use Rattle.turn_rules.specs.Monitor.{Held, step_held, some_held, fresh_from, monitor_of, cabinet_fit, cabinet_monitor}
+use Rattle.turn_rules.proofs.Monitor.{Held, step_held, some_held, fresh_from, monitor_of, cabinet_fit, cabinet_monitor}
 use Rattle.turn_rules.specs.Laws.Fine.{by_rules, state_sound, own_means}
 use Rattle.turn_rules.specs.Laws.Sender.{at_allowed}
-use Rattle.turn_rules.specs.Laws.Fresh.{fresh_stands, fresh_fine, fresh_sound}
+use Rattle.turn_rules.proofs.Laws.Fresh.{fresh_stands, fresh_fine, fresh_sound}
 use Rattle.turn_rules.specs.Laws.Sizes.{limits_carried, sized_limits, sized_roomy}
-use Rattle.turn_rules.specs.Laws.Every.{tables_for, every_typed, every_sized, every_means, every_stands, every_sound}
-use Rattle.turn_rules.specs.Laws.Held.{step_is, by_unsound, by_malformed, by_stranger, answer_is, stands_after, keeps_sound}
+use Rattle.turn_rules.proofs.Laws.Every.{tables_for, every_typed, every_sized, every_means, every_stands, every_sound}
+use Rattle.turn_rules.proofs.Laws.Held.{step_is, by_unsound, by_malformed, by_stranger, answer_is, stands_after, keeps_sound}
 
 -- the register means its own value
 pub own_stands : (t : Tables) → StandsFor t (state_at (register_of t.requests) t)

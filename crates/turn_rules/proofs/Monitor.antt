@@ -13,10 +13,10 @@ use Rattle.turn_rules.specs.Tables.{Tables}
 use Rattle.turn_rules.specs.Turn.{sender_in, turn_of}
 use Rattle.turn_rules.specs.Standing.{StandsFor, sound_t, Typed, fresh_of, Sizes, limits, cabinet_sizes, Fit, Sized}
 use Rattle.turn_rules.specs.Laws.Kept.{Keeps}
-use Rattle.turn_rules.specs.Laws.TurnKept.{turn_kept}
-use Rattle.turn_rules.specs.Laws.Fresh.{fresh_kept}
+use Rattle.turn_rules.proofs.Laws.TurnKept.{turn_kept}
+use Rattle.turn_rules.proofs.Laws.Fresh.{fresh_kept}
 use Rattle.turn_rules.specs.Laws.Sizes.{sized_kept}
-use Rattle.turn_rules.specs.Laws.Every.{tables_for, every_typed, every_sized}
+use Rattle.turn_rules.proofs.Laws.Every.{tables_for, every_typed, every_sized}
 
 -- tables of those sizes
 pub record Held (z : Sizes) : Type 0 where

@@ -21,8 +21,8 @@ use Rattle.interval.specs.Stands.{request_at, interval_at, Means, sound_r, Done}
 use Rattle.interval.specs.Rows.{named, data_of, out_row, no_row, with_row}
 use Rattle.interval.specs.Retrieve.{retrieve_gives, has_own, serves, cut_of, handed, nothing, task_of, retrieve_in}
 use Rattle.interval.specs.Laws.Ties.{Small, small, finish}
-use Rattle.interval.specs.Laws.Standing.{name_of, expired_at, taken_at, turned, turned_small, read_row, cut_small}
-use Rattle.interval.specs.Laws.Remove.{cut_stands_at}
+use Rattle.interval.proofs.Laws.Standing.{name_of, expired_at, taken_at, turned, turned_small, read_row, cut_small}
+use Rattle.interval.proofs.Laws.Remove.{cut_stands_at}
 
 -- ---- the first bytes
 

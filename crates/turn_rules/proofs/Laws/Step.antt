@@ -30,11 +30,11 @@ use Rattle.settings.specs.declared.Setting.TheVariants.{Unset, Ignore, Label}
 use Rattle.turn_rules.specs.Tables.{Tables, interval_in, known_in}
 use Rattle.turn_rules.specs.Turn.{sender_in, obeyed_in, decided_as, settle_in, judged, settled_of, refused_in, heard_as, turn_of}
 use Rattle.turn_rules.specs.Standing.{state_at, limits_of, sound_t, Typed}
-use Rattle.turn_rules.specs.Laws.TurnKept.{turn_kept}
+use Rattle.turn_rules.proofs.Laws.TurnKept.{turn_kept}
 use Rattle.turn_rules.specs.Laws.Fine.{Fine, Active, roomy_kept, Rules, by_rules, from_rules, state_sound, own_means}
 use Rattle.turn_rules.specs.Laws.Sender.{at_allowed, nobody_allowed}
 use Rattle.turn_rules.specs.Laws.Parts.{Meets, without_stands, without_fine}
-use Rattle.turn_rules.specs.Laws.Deeds.{obeys_model}
+use Rattle.turn_rules.proofs.Laws.Deeds.{obeys_model}
 
 -- what the tables come to, where the model's turn is y
 pub record Goes (x : Stepped Tables) (y : Turn) : Type 0 where

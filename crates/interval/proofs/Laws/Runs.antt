@@ -17,13 +17,13 @@ use Rattle.interval.specs.Rows.{no_row}
 use Rattle.interval.specs.Runs.{Ask, Program, Terminal, Advance, AskTicks, Dispatch, Start, Cancel, Retrieve, Remove, wide_names, in_range, turn, model_turn, said, outcomes, tables, model_outcomes, model_after}
 use Rattle.interval.specs.Stands.{interval_at, Means, sound_r, Done}
 use Rattle.interval.specs.Start.{start_in}
-use Rattle.interval.specs.Laws.Cancel.{cancel_done}
+use Rattle.interval.proofs.Laws.Cancel.{cancel_done}
 use Rattle.interval.specs.Laws.Define.{programs, terminals, define_done}
-use Rattle.interval.specs.Laws.Dispatch.{dispatch_both}
+use Rattle.interval.proofs.Laws.Dispatch.{dispatch_both}
 use Rattle.interval.specs.Laws.Fresh.{fresh_both, ask_both}
-use Rattle.interval.specs.Laws.Remove.{remove_done}
-use Rattle.interval.specs.Laws.Retrieve.{retrieve_both}
-use Rattle.interval.specs.Laws.Start.{start_both}
+use Rattle.interval.proofs.Laws.Remove.{remove_done}
+use Rattle.interval.proofs.Laws.Retrieve.{retrieve_both}
+use Rattle.interval.proofs.Laws.Start.{start_both}
 use Rattle.interval.specs.Laws.Advance as tied
 
 -- ---- one

@@ -13,7 +13,7 @@ use Rattle.slots.specs.Bits.{bit, with_bit, number, held, none, used_at, put, ma
 use Rattle.slots.specs.Told.{Typed, Alone}
 use Rattle.slots.specs.Laws.Digits.{bit_zero, bit_past, bit_put, put_itself, put_lt}
 use Rattle.slots.specs.Laws.Ones.{ones_put, ones_zero, length_ones}
-use Rattle.slots.specs.Laws.Words.{bit_low, bit_high, cat_lt, cat_put_low, cat_put_high}
+use Rattle.slots.proofs.Laws.Words.{bit_low, bit_high, cat_lt, cat_put_low, cat_put_high}
 use Rattle.slots.specs.declared.Used.{Used}
 
 and_same : (a b : Bool) → b ≡ true → (a && b) ≡ a

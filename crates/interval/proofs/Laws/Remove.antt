@@ -17,7 +17,7 @@ use Rattle.interval.specs.Stands.{request_at, interval_at, Means, sound_r}
 use Rattle.interval.specs.Rows.{named, out_row}
 use Rattle.interval.specs.Remove.{remove_in, Removed}
 use Rattle.interval.specs.Laws.Ties.{Small, small, sound_here, sound_back}
-use Rattle.interval.specs.Laws.Standing.{name_of, names_once, live_at, cut_small}
+use Rattle.interval.proofs.Laws.Standing.{name_of, names_once, live_at, cut_small}
 
 -- without the first of a name, which is the only one
 cut_named : (n : ℕ) (l : List Request) → once (map name_of l) ≡ true → any (named n) l ≡ true

@@ -12,8 +12,8 @@ use Rattle.model.specs.Commands.{Answer, plain, formed, allowed, obeyed, step}
 use Rattle.model.specs.Lists.{answers_from}
 use Rattle.model.specs.Demands.{answers, are_bytes}
 use Rattle.model.specs.Examples.{by, long, ok, ans, tasked, tasked_answers, astray}
-use Rattle.turn_rules.specs.Monitor.{cabinet_monitor}
-use Rattle.turn_rules.specs.Laws.Demands.{cabinet_demand3}
+use Rattle.turn_rules.proofs.Monitor.{cabinet_monitor}
+use Rattle.turn_rules.proofs.Laws.Demands.{cabinet_demand3}
 
 module _ (v : ℕ) (h : v < 2 ^ 32) where
   -- what the model answers the monitor answers

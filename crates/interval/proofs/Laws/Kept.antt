@@ -36,8 +36,8 @@ use Rattle.interval.specs.Retrieve.{has_own, serves, task_of, retrieve_in}
 use Rattle.interval.specs.Start as start
 use Rattle.interval.specs.Runs.{Ask, Program, Terminal, Advance, AskTicks, Dispatch, Start, Cancel, Retrieve, Remove, wide_names, in_range, turn, tables}
 use Rattle.interval.specs.Laws.Define as defines
-use Rattle.interval.specs.Laws.Dispatch.{pick_below}
-use Rattle.interval.specs.Laws.Start as starts
+use Rattle.interval.proofs.Laws.Dispatch.{pick_below}
+use Rattle.interval.proofs.Laws.Start as starts
 use Rattle.interval.specs.Laws.Advance as tied
 
 -- ---- rows

@@ -28,7 +28,7 @@ use Rattle.interval.specs.Rows.{named}
 use Rattle.interval.specs.Start.{start_gives, ruling, ruled, begun_at, new_row, if_done, started, start_in}
 use Rattle.interval.specs.Laws.Typed.{with_rows, counted}
 use Rattle.interval.specs.Laws.Ties.{short, Small, small, finish}
-use Rattle.interval.specs.Laws.Standing.{known_at, live_at, live_small}
+use Rattle.interval.proofs.Laws.Standing.{known_at, live_at, live_small}
 
 -- ---- what a ruling comes to
 

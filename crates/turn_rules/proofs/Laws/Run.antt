@@ -20,14 +20,14 @@ use Rattle.turn_rules.specs.Tables.{Tables}
 use Rattle.turn_rules.specs.Turn.{turn_of}
 use Rattle.turn_rules.specs.Standing.{state_at, StandsFor, sound_t, Typed, fresh_of, Sizes, limits, Fit, Sized}
 use Rattle.turn_rules.specs.Run.{answers_in, tables_after}
-use Rattle.turn_rules.specs.Monitor.{Held, keeping, monitor_of}
+use Rattle.turn_rules.proofs.Monitor.{Held, keeping, monitor_of}
 use Rattle.turn_rules.specs.Laws.Kept.{Keeps, keeps_itself, keeps_then}
-use Rattle.turn_rules.specs.Laws.TurnKept.{turn_kept}
-use Rattle.turn_rules.specs.Laws.Fresh.{fresh_kept, fresh_stands, fresh_fine, fresh_sound}
+use Rattle.turn_rules.proofs.Laws.TurnKept.{turn_kept}
+use Rattle.turn_rules.proofs.Laws.Fresh.{fresh_kept, fresh_stands, fresh_fine, fresh_sound}
 use Rattle.turn_rules.specs.Laws.Sizes.{sized_roomy, sized_kept}
-use Rattle.turn_rules.specs.Laws.Step.{turn_sound}
-use Rattle.turn_rules.specs.Laws.Held.{turn_answer, turn_stands}
-use Rattle.turn_rules.specs.Laws.Demands.{own_stands, demand2}
+use Rattle.turn_rules.proofs.Laws.Step.{turn_sound}
+use Rattle.turn_rules.proofs.Laws.Held.{turn_answer, turn_stands}
+use Rattle.turn_rules.proofs.Laws.Demands.{own_stands, demand2}
 
 -- ---- "Through the list only 33 and 34 can arise."
 

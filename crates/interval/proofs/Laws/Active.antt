@@ -7,7 +7,7 @@ use Rattle.interval.specs.declared.Requests.{Requests}
 use Rattle.interval.specs.Table.{live}
 use Rattle.interval.specs.Stands.{interval_at}
 use Rattle.interval.specs.Active.{task, active_in}
-use Rattle.interval.specs.Laws.Standing.{task_at}
+use Rattle.interval.proofs.Laws.Standing.{task_at}
 
 -- both clauses
 pub active_both : (t : Requests) (n : ℕ) (r : Bool) → r ≡ any (task n) (live t)

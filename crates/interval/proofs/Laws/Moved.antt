@@ -13,7 +13,7 @@ use Rattle.model.specs.Interval as model
 use Rattle.model.proofs.Laws.Shift.{shift_interval, remove_shift, program_shift, terminal_shift, advance_shift, dispatch_shift, start_shift, cancel_shift, retrieve_shift}
 use Rattle.interval.specs.Fresh.{fresh_at}
 use Rattle.interval.specs.Runs.{Ask, Program, Terminal, Advance, AskTicks, Dispatch, Start, Cancel, Retrieve, Remove, in_range, model_turn, Said, said, outcomes, model_outcomes, asks_ticks, retick, reticked}
-use Rattle.interval.specs.Laws.Runs.{runs_fresh}
+use Rattle.interval.proofs.Laws.Runs.{runs_fresh}
 
 -- ---- the model, its clock moved on by k
 

@@ -23,7 +23,7 @@ use Rattle.interval.specs.Stands.{request_at, interval_at, Means, sound_r, Done}
 use Rattle.interval.specs.Rows.{expired, active, out_row, no_row, with_row}
 use Rattle.interval.specs.Dispatch.{At, None, dispatch_gives, dispatch_number, dispatch_bytes, program_of, terminal_of, ready, passed_by, pick_in, dispatched, dispatched_row, dispatch_in}
 use Rattle.interval.specs.Laws.Ties.{Small, small, finish}
-use Rattle.interval.specs.Laws.Standing.{active_at, expired_at, turned, turned_small, read_row}
+use Rattle.interval.proofs.Laws.Standing.{active_at, expired_at, turned, turned_small, read_row}
 
 abbrev DispatchDone : ℕ → Requests → Dispatched → Type 0
 DispatchDone c t r = Done c c t r.requests (model.dispatch (interval_at c t)) (dispatch_gives r.outcome) (dispatch_number r.outcome) (dispatch_bytes r.outcome)

@@ -15,8 +15,8 @@ use Rattle.request_rows.specs.declared.Task.TheVariants.{At, Nobody}
 use Rattle.turn_rules.specs.Tables.{Tables, interval_in}
 use Rattle.turn_rules.specs.Turn.{sender_in, turn_of}
 use Rattle.turn_rules.specs.Standing.{state_at, StandsFor, sound_t, step_of, Sizes, limits, Fit}
-use Rattle.turn_rules.specs.Monitor.{Held, stays, goes_by, step_held}
-use Rattle.turn_rules.specs.Laws.Step.{Goes, goes_at, turn_sound}
+use Rattle.turn_rules.proofs.Monitor.{Held, stays, goes_by, step_held}
+use Rattle.turn_rules.proofs.Laws.Step.{Goes, goes_at, turn_sound}
 use Rattle.turn_rules.specs.Laws.Sizes.{sized_limits}
 
 -- ---- its step is the exact definition

@@ -7,7 +7,7 @@ use Rattle.std.specs.Int.Bits.{block_half, block_odd}
 use Rattle.base.specs.Laws.Tests.{by_test}
 use Rattle.slots.specs.Bits.{bit, with_bit}
 use Rattle.slots.specs.Laws.Digits.{part_le}
-use Rattle.slots.specs.Laws.Lowest.{Lowest}
+use Rattle.slots.proofs.Laws.Lowest.{Lowest}
 
 pub bit_low : (d a r k : ℕ) → k < d → bit (a * 2 ^ d + r) k ≡ bit r k
 unfolding bit

@@ -9,11 +9,11 @@ use Rattle.base.specs.Choice.{pick}
 use Rattle.base.specs.Laws.Tests.{by_test, and_l, and_r, and_i}
 use Rattle.slots.specs.Bits.{lowest_clear, number, held, free_for}
 use Rattle.slots.specs.Told.{Typed, Free, Found}
-use Rattle.slots.specs.Laws.Lowest.{lowest_is, lowest_room}
+use Rattle.slots.proofs.Laws.Lowest.{lowest_is, lowest_room}
 use Rattle.slots.specs.declared.Used.{Used}
 use Rattle.slots.specs.declared.Slot.{Slot}
 use Rattle.slots.specs.declared.Slot.TheVariants.{At, Full}
-use Rattle.slots.specs.Laws.Slots.{number_lt, held_le}
+use Rattle.slots.proofs.Laws.Slots.{number_lt, held_le}
 
 abbrev choice : Used → Bool → Slot
 choice u b = pick b (At (lowest_clear (number u) 128)) Full

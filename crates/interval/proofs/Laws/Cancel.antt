@@ -19,8 +19,8 @@ use Rattle.interval.specs.Rows.{active, named, out_row}
 use Rattle.interval.specs.Cancel.{cancel_in, cancel_gives, cancelled}
 use Rattle.interval.specs.declared.answers.Cancel.TheVariants as answers
 use Rattle.interval.specs.Laws.Ties.{Small, small, finish}
-use Rattle.interval.specs.Laws.Standing.{name_of, known_at, task_at, names_once, cut_small}
-use Rattle.interval.specs.Laws.Remove.{cut_stands}
+use Rattle.interval.proofs.Laws.Standing.{name_of, known_at, task_at, names_once, cut_small}
+use Rattle.interval.proofs.Laws.Remove.{cut_stands}
 
 abbrev CancelDone : ℕ → Requests → ℕ → Cancelled → Type 0
 CancelDone c t n r = Done c c t r.requests (model.cancel (interval_at c t) n) (cancel_gives r.outcome) 0 []

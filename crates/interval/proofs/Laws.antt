@@ -1,0 +1,10 @@
+pub mod Standing
+pub mod Remove
+pub mod Cancel
+pub mod Active
+pub mod Start
+pub mod Dispatch
+pub mod Retrieve
+pub mod Kept
+pub mod Runs
+pub mod Moved

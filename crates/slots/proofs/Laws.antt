@@ -1,0 +1,4 @@
+pub mod Lowest
+pub mod Words
+pub mod Slots
+pub mod Free
