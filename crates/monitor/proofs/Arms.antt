@@ -6,7 +6,7 @@ use borrow.Author.Tests.{ne_eqb}
 use Rattle.model.specs.Commands.{issuer, operand}
 use Rattle.interval.specs.declared.Requests.{Requests}
 use Rattle.interval.specs.Runs.{Retrieve, turn}
-use Rattle.queues.specs.Laws.Runs.{Delete}
+use Rattle.queues.specs.Runs.{Delete}
 use Rattle.monitor.specs.declared.requests.Asked.{Asked}
 use Rattle.monitor.specs.Requests.{asks, ask_of}
 use Rattle.monitor.specs.Store.{store_ask}

@@ -9,7 +9,7 @@ use borrow.Author.Tests.{le-leb, lt-leb, eq-eqb, ne_eqb}
 use Rattle.model.specs.Plans.{fault, done, outcome_in, Outcome}
 use Rattle.model.specs.Commands.{command, issuer, wrong_kind, row_of}
 use Rattle.interval.specs.Runs as interval
-use Rattle.queues.specs.Laws.Runs as queues
+use Rattle.queues.specs.Runs as queues
 use Rattle.monitor.specs.declared.Parts.{Parts}
 use Rattle.monitor.specs.declared.Tables.{Tables}
 use Rattle.monitor.specs.declared.answers.Said.{Said}

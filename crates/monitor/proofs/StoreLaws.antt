@@ -2,7 +2,7 @@
 use mathlib.Core.Path.{◌≡◌, ap, ◌∙◌}
 use Rattle.model.specs.Plans.{Outcome}
 use Rattle.queues.specs.declared.Queues.{Queues}
-use Rattle.queues.specs.Laws.Runs.{Store}
+use Rattle.queues.specs.Runs.{Store}
 use Rattle.monitor.specs.declared.answers.Said.{Said}
 use Rattle.monitor.specs.declared.store.Stored.{Stored}
 use Rattle.monitor.specs.Answers.{said}

@@ -8,7 +8,7 @@ use Rattle.model.specs.Commands.{command, issuer, wrong_kind, row_of, formed}
 use Rattle.model.specs.Demands.{Stepped}
 use Rattle.interval.specs.Active.{active_in}
 use Rattle.interval.specs.Runs as interval
-use Rattle.queues.specs.Laws.Runs as queues
+use Rattle.queues.specs.Runs as queues
 use Rattle.handlers.specs.Decide.{decide_in}
 use Rattle.handlers.specs.declared.Setting.{Setting}
 use Rattle.handlers.specs.declared.Setting.TheVariants.{Unset, Ignore, Label}

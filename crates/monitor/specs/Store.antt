@@ -3,7 +3,7 @@ use Rattle.std.specs.Prelude.{ℕ, List, eqb}
 use Rattle.base.specs.Choice.{pick}
 use Rattle.model.specs.Plans.{Outcome}
 use Rattle.model.specs.Commands.{operand, rest}
-use Rattle.queues.specs.Laws.Runs.{Ask, Append, Next, At, Rewrite, Delete, Store}
+use Rattle.queues.specs.Runs.{Ask, Append, Next, At, Rewrite, Delete, Store}
 use Rattle.monitor.specs.declared.store.Stored.{Stored}
 use Rattle.monitor.specs.Answers.{said}
 

@@ -11,7 +11,7 @@ use Rattle.interval.specs.declared.Requests.{Requests}
 use Rattle.queues.specs.Fresh as queues
 use Rattle.queues.specs.Model.{queues_of}
 use Rattle.queues.specs.Sound.{sound_q}
-use Rattle.queues.specs.Laws.Runs.{Store, store}
+use Rattle.queues.specs.Runs.{Store, store}
 use Rattle.handlers.specs.Forget.{forget_in}
 use Rattle.handlers.specs.Fresh.{no_tasks}
 use Rattle.handlers.specs.Table.{tasks_of, sound_h}

@@ -5,7 +5,7 @@ ghost use Rattle.queues.specs.Append as append;
 ghost use Rattle.queues.specs.Delete as delete;
 ghost use Rattle.queues.specs.Rewrite as rewrite;
 ghost use Rattle.queues.specs.Read.{condition_of, number_of, bytes_of, Inside, Lies};
-ghost use Rattle.queues.specs.Laws.Runs.{Append, Next, At, Rewrite, Delete, store, turn};
+ghost use Rattle.queues.specs.Runs.{Append, Next, At, Rewrite, Delete, store, turn};
 ghost use Rattle.monitor.specs.Answers.{saying};
 ghost use Rattle.monitor.specs.Store.{lent, stores, store_ask};
 

@@ -7,5 +7,6 @@ pub mod Delete
 pub mod Place
 pub mod Read
 pub mod Rewrite
+pub mod Runs
 pub mod Laws
 pub mod Examples

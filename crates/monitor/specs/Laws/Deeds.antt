@@ -23,7 +23,8 @@ use Rattle.interval.proofs.Laws.Kept.{turn_typed, remove_typed}
 use Rattle.interval.proofs.Laws.Remove.{remove_done}
 use Rattle.interval.proofs.Laws.Runs as interval-runs
 use Rattle.queues.specs.Model.{queues_of}
-use Rattle.queues.specs.Laws.Runs as queues
+use Rattle.queues.specs.Runs as queues
+use Rattle.queues.specs.Laws.Runs as queues-runs
 use Rattle.handlers.specs.Set as settings
 use Rattle.handlers.specs.Table.{tasks_of, sound_h}
 use Rattle.handlers.specs.Laws.Forget.{forget_done}
@@ -83,7 +84,7 @@ module _ (c : ℕ) (t : Tables) (m : Means t.parts.requests c) (f : Fine t) wher
   store_in_lem : (a : queues.Ask) → queues.asked a ≡ true
       → Follows (outcome_in (with_store t) (queues.turn (store_of t) a)) (outcome_in (model.with_queues (state_at c t)) (queues.obeyed (queues.queues_in (store_of t)) a))
   store_in_lem a h =
-      let d = queues.turns (store_of t) a (record { kept = f.typed.store; soundly = f.queues }) h in
+      let d = queues-runs.turns (store_of t) a (record { kept = f.typed.store; soundly = f.queues }) h in
       record {
         clock = c;
         outcome = ap (outcome_in (model.with_queues (state_at c t))) d.outcome;

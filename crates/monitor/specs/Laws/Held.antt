@@ -8,7 +8,7 @@ use Rattle.model.specs.Commands.{command, issuer}
 use Rattle.interval.specs.Remove.{remove_in}
 use Rattle.interval.specs.Runs as interval
 use Rattle.interval.specs.declared.Requests.{Requests as Interval}
-use Rattle.queues.specs.Laws.Runs as queues
+use Rattle.queues.specs.Runs as queues
 use Rattle.queues.specs.declared.Queues.{Queues}
 use Rattle.handlers.specs.Decide.{decide_in}
 use Rattle.handlers.specs.Forget.{forget_in}

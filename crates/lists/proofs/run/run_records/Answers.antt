@@ -15,7 +15,7 @@ use Rattle.interval.specs.Active.{task, active_in}
 use Rattle.interval.specs.Runs as interval
 use Rattle.interval.specs.declared.Requests.{Requests}
 use Rattle.interval.proofs.Seeks.{seeks_on}
-use Rattle.queues.specs.Laws.Runs as queues
+use Rattle.queues.specs.Runs as queues
 use Rattle.monitor.specs.Requests.{asks, ask_of}
 use Rattle.monitor.specs.Store.{stores, store_ask}
 use Rattle.monitor.specs.Lanes.{laned}

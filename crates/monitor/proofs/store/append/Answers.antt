@@ -2,7 +2,7 @@
 use mathlib.Core.Path.{◌≡◌, ap₂, ◌∙◌}
 use Rattle.model.specs.Commands.{operand, rest}
 use Rattle.queues.specs.Append.{Lent, lent, append_to}
-use Rattle.queues.specs.Laws.Runs.{of_append}
+use Rattle.queues.specs.Runs.{of_append}
 use Rattle.monitor.proofs.StoreLaws.{told}
 use Rattle.monitor.proofs.store.append.Goals as goal
 

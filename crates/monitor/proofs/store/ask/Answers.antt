@@ -4,7 +4,7 @@ use Prim.Native.Nat.{ℕ}
 use native.Mathlib.Omega.{arith}
 use mathlib.Core.List.{List}
 use Rattle.queues.specs.declared.Queues.{Queues}
-use Rattle.queues.specs.Laws.Runs.{Ask, store, turn}
+use Rattle.queues.specs.Runs.{Ask, store, turn}
 use Rattle.monitor.specs.Store.{Lent, stores, store_ask}
 use Rattle.monitor.proofs.Arms.{last_store_arm}
 use Rattle.monitor.proofs.store.ask.Goals as goal

@@ -2,7 +2,7 @@
 use mathlib.Core.Path.{◌≡◌, ap, ◌∙◌}
 use Rattle.model.specs.Commands.{operand}
 use Rattle.queues.specs.Delete.{delete_from}
-use Rattle.queues.specs.Laws.Runs.{of_delete}
+use Rattle.queues.specs.Runs.{of_delete}
 use Rattle.monitor.proofs.StoreLaws.{told}
 use Rattle.monitor.proofs.store.delete.Goals as goal
 

@@ -3,7 +3,7 @@ use mathlib.Core.Path.{◌≡◌, ap, ap₂, ◌∙◌}
 use Prim.Native.Nat.{ℕ}
 use Rattle.model.specs.Commands.{operand}
 use Rattle.queues.specs.Read.{read_in}
-use Rattle.queues.specs.Laws.Runs.{of_read}
+use Rattle.queues.specs.Runs.{of_read}
 use Rattle.monitor.proofs.StoreLaws.{told}
 use Rattle.monitor.proofs.store.read_at.Goals as goal
 

@@ -2,7 +2,7 @@
 use mathlib.Core.Path.{◌≡◌, ap₂, ◌∙◌}
 use Rattle.model.specs.Commands.{operand}
 use Rattle.queues.specs.Read.{read_next_in}
-use Rattle.queues.specs.Laws.Runs.{of_read}
+use Rattle.queues.specs.Runs.{of_read}
 use Rattle.monitor.proofs.StoreLaws.{told}
 use Rattle.monitor.proofs.store.read_next.Goals as goal
 

@@ -3,7 +3,7 @@ use mathlib.Core.Path.{◌≡◌, ap, ap₂, ◌∙◌}
 use Prim.Native.Nat.{ℕ}
 use Rattle.model.specs.Commands.{operand, rest}
 use Rattle.queues.specs.Rewrite.{Lent, lent, rewrite_in}
-use Rattle.queues.specs.Laws.Runs.{of_rewrite}
+use Rattle.queues.specs.Runs.{of_rewrite}
 use Rattle.monitor.proofs.StoreLaws.{told}
 use Rattle.monitor.proofs.store.rewrite.Goals as goal
 
