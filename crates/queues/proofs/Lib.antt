@@ -6,3 +6,5 @@ pub mod DeleteExact
 pub mod SoundLaws
 pub mod Small
 pub mod Told
+pub mod Laws
+pub mod Examples

@@ -5,15 +5,8 @@ pub mod Paste
 pub mod Fresh
 pub mod Grown
 pub mod Put
-pub mod Append
 pub mod Place
 pub mod Rows
 pub mod Read
-pub mod Rewrite
 pub mod Clear
 pub mod DeleteLists
-pub mod Delete
-pub mod Kept
-pub mod Runs
-pub mod Space
-pub mod Every

@@ -9,4 +9,3 @@ pub mod Read
 pub mod Rewrite
 pub mod Runs
 pub mod Laws
-pub mod Examples

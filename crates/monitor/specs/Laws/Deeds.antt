@@ -24,7 +24,7 @@ use Rattle.interval.proofs.Laws.Remove.{remove_done}
 use Rattle.interval.proofs.Laws.Runs as interval-runs
 use Rattle.queues.specs.Model.{queues_of}
 use Rattle.queues.specs.Runs as queues
-use Rattle.queues.specs.Laws.Runs as queues-runs
+use Rattle.queues.proofs.Laws.Runs as queues-runs
 use Rattle.handlers.specs.Set as settings
 use Rattle.handlers.specs.Table.{tasks_of, sound_h}
 use Rattle.handlers.specs.Laws.Forget.{forget_done}

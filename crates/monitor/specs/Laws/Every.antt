@@ -17,7 +17,7 @@ use Rattle.model.proofs.Laws.SoundStep as model
 use Rattle.model.proofs.Laws.SoundTasks.{view_tasks}
 use Rattle.interval.specs.Laws.Every as requests
 use Rattle.interval.specs.Stands.{Means}
-use Rattle.queues.specs.Laws.Every as queues
+use Rattle.queues.proofs.Laws.Every as queues
 use Rattle.handlers.specs.Laws.Every as settings
 use Rattle.monitor.specs.declared.Tables.{Tables}
 use Rattle.monitor.specs.Table.{tables, state_at, sound_p}

@@ -22,7 +22,7 @@ use Rattle.interval.specs.Laws.Fresh as requests-fresh
 use Rattle.interval.proofs.Laws.Kept as requests-kept
 use Rattle.queues.specs.Sound.{sound_q}
 use Rattle.queues.specs.Laws.Fresh as queues-fresh
-use Rattle.queues.specs.Laws.Kept as queues-kept
+use Rattle.queues.proofs.Laws.Kept as queues-kept
 use Rattle.handlers.specs.Table.{sound_h, tasks_of}
 use Rattle.handlers.specs.Laws.Every as settings
 use Rattle.handlers.proofs.Laws.Kept as settings_kept

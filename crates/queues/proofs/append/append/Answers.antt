@@ -17,7 +17,7 @@ use Rattle.queues.specs.declared.append.Appending.TheVariants.{Stored}
 use Rattle.queues.specs.Table.{owners}
 use Rattle.queues.specs.Append.{with_queue, put, stored, answer, fault_of}
 use Rattle.queues.specs.Laws.Typed.{Typed, word, byte}
-use Rattle.queues.specs.Laws.Append.{append_both}
+use Rattle.queues.proofs.Laws.Append.{append_both}
 use Rattle.queues.proofs.AppendCases.{Clear, row_known, row_new, way_row, append_fault, append_no_slot, append_stored, made_owner, stores_put, few_copies}
 use Rattle.queues.proofs.append.append.Goals as goal
 use Rattle.queues.proofs.append.append.Goals.{Start, In-Row, Joined-row-q, After-tally-place, else-row-q, then-row-q}

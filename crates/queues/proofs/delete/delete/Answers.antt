@@ -7,7 +7,7 @@ use native.Mathlib.Omega.{arith}
 use borrow.Author.Rules.{rules}
 use lib.Dec.{lit≤}
 use Rattle.queues.specs.Laws.Typed.{Typed, word, byte}
-use Rattle.queues.specs.Laws.Delete.{delete_both}
+use Rattle.queues.proofs.Laws.Delete.{delete_both}
 use Rattle.queues.proofs.Small.{eights, next_fits, nearer, carry_le, carry_lt, at_most_16}
 use Rattle.queues.proofs.ShutLaws.{shut_to, shut_start, shut_step, shut_end}
 use Rattle.queues.proofs.DeleteExact.{exact_blank, exact_unknown, exact_freed}

@@ -17,8 +17,8 @@ use Rattle.queues.specs.Place.{slot_in}
 use Rattle.queues.specs.Rewrite.{resized, answer, put_in}
 use Rattle.queues.specs.Laws.Typed.{Typed, word, byte}
 use Rattle.queues.specs.Laws.Rows.{row_known, row_unknown}
-use Rattle.queues.specs.Laws.Append.{wrong}
-use Rattle.queues.specs.Laws.Rewrite.{rewrite_invalid, rewrite_length, rewrite_unknown, rewrite_none, rewrite_done, rewrite_all}
+use Rattle.queues.proofs.Laws.Append.{wrong}
+use Rattle.queues.proofs.Laws.Rewrite.{rewrite_invalid, rewrite_length, rewrite_unknown, rewrite_none, rewrite_done, rewrite_all}
 use Rattle.queues.proofs.Small.{sixties, fits_byte, carry_le, carry_lt, slot_room}
 use Rattle.queues.proofs.rewrite.rewrite.Goals as goal
 use Rattle.queues.proofs.rewrite.rewrite.Goals.{Start, then-m-lt1-via-then-m-lt1, then-m-lt1-via-else-m-lt1+then-m-gt64}

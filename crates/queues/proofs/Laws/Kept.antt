@@ -37,8 +37,8 @@ use Rattle.queues.specs.Laws.Paste.{paste_long, paste_bytes}
 use Rattle.queues.specs.Laws.Grown.{ready}
 use Rattle.queues.specs.Laws.Rows.{place_few}
 use Rattle.queues.specs.Laws.Read.{read_elim}
-use Rattle.queues.specs.Laws.Append.{wrong, append_elim}
-use Rattle.queues.specs.Laws.Rewrite.{rewrite_elim}
+use Rattle.queues.proofs.Laws.Append.{wrong, append_elim}
+use Rattle.queues.proofs.Laws.Rewrite.{rewrite_elim}
 use Rattle.queues.specs.Laws.DeleteLists.{others_long, but_long, but_all}
 
 -- ---- lists of numbers below a bound

@@ -30,7 +30,7 @@ use Rattle.queues.specs.Laws.Typed.{Typed}
 use Rattle.queues.specs.Laws.From.{from_at}
 use Rattle.queues.specs.Laws.Paste.{paste_there, paste_other}
 use Rattle.queues.specs.Laws.Stands.{QueuesHold, holds, held_sound, known_of_lem}
-use Rattle.queues.specs.Laws.Append.{wrong}
+use Rattle.queues.proofs.Laws.Append.{wrong}
 use Rattle.queues.specs.Laws.Place.{At, at_found}
 use Rattle.queues.specs.Laws.Rows.{faulty, clear, slots_have, no_place_lem}
 

@@ -15,11 +15,11 @@ use Rattle.queues.specs.Delete.{delete_from}
 use Rattle.queues.specs.Runs.{Ask, Append, Next, At, Rewrite, Delete, asked, Store, store, queues_in, turn, obeyed, Reply, reply, replies, after}
 use Rattle.queues.specs.Laws.Stands.{holds}
 use Rattle.queues.specs.Laws.Fresh.{fresh_empty, fresh_typed}
-use Rattle.queues.specs.Laws.Append.{append_meets}
+use Rattle.queues.proofs.Laws.Append.{append_meets}
 use Rattle.queues.specs.Laws.Read.{read_at_all, read_next_all}
-use Rattle.queues.specs.Laws.Rewrite.{rewrite_all}
-use Rattle.queues.specs.Laws.Delete.{delete_meets}
-use Rattle.queues.specs.Laws.Kept.{Kept, append_kept, read_typed, next_typed, rewrite_kept, delete_typed}
+use Rattle.queues.proofs.Laws.Rewrite.{rewrite_all}
+use Rattle.queues.proofs.Laws.Delete.{delete_meets}
+use Rattle.queues.proofs.Laws.Kept.{Kept, append_kept, read_typed, next_typed, rewrite_kept, delete_typed}
 
 -- ---- one turn
 

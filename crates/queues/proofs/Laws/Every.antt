@@ -33,9 +33,9 @@ use Rattle.queues.specs.Laws.Typed.{Typed}
 use Rattle.queues.specs.Laws.From.{from_same}
 use Rattle.queues.specs.Laws.Stands.{Laid, stands_sound}
 use Rattle.queues.specs.Laws.Fresh.{zeros_below}
-use Rattle.queues.specs.Laws.Kept.{over_below}
+use Rattle.queues.proofs.Laws.Kept.{over_below}
 use Rattle.queues.specs.Runs.{store, queues_in}
-use Rattle.queues.specs.Laws.Runs.{Good}
+use Rattle.queues.proofs.Laws.Runs.{Good}
 
 -- ---- the struct of a list of queues
 

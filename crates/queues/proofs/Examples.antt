@@ -8,7 +8,7 @@ use Rattle.base.specs.Laws.Maps.{map_all_same}
 use Rattle.model.specs.Queues.{append, read_next, read_at, rewrite}
 use Rattle.queues.specs.Fresh.{fresh}
 use Rattle.queues.specs.Runs.{Ask, Append, Next, At, Rewrite, asked, store, turn, obeyed, Reply, reply, replies}
-use Rattle.queues.specs.Laws.Runs.{runs_fresh}
+use Rattle.queues.proofs.Laws.Runs.{runs_fresh}
 
 pub record Case : Type 0 where
   pub asks : List Ask

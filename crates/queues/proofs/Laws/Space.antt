@@ -22,8 +22,8 @@ use Rattle.queues.specs.Append.{Lent, grown, with_queue, in_slot, append_to}
 use Rattle.queues.specs.Delete.{shut, emptied, swept, delete_from}
 use Rattle.queues.specs.Laws.Typed.{Typed, entries_le}
 use Rattle.queues.specs.Laws.Stands.{holds}
-use Rattle.queues.specs.Laws.Append.{no_row, append_elim}
-use Rattle.queues.specs.Laws.Delete.{delete_frees}
+use Rattle.queues.proofs.Laws.Append.{no_row, append_elim}
+use Rattle.queues.proofs.Laws.Delete.{delete_frees}
 
 -- ---- full
 
