@@ -1,7 +1,7 @@
 -- `active::is_active` meets its contract: the rows passed are not active, or not of that name. Assumes nothing.
 use Rattle.std.proofs.Common.{true, false, sym, ◌∙◌, arith}
 use Rattle.interval.specs.Active.{task}
-use Rattle.interval.specs.Laws.Active.{active_both}
+use Rattle.interval.proofs.Laws.Active.{active_both}
 use Rattle.interval.proofs.Seeks.{seeks_some, seeks_none}
 use Rattle.interval.proofs.active.is_active.Goals as goal
 

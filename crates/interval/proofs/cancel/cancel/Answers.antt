@@ -3,8 +3,8 @@ use Rattle.std.proofs.Common.{◌≡◌, sym, ◌∙◌, eq-eqb}
 use Rattle.base.specs.Lists.{first_at}
 use Rattle.interval.specs.Table.{live}
 use Rattle.interval.specs.Rows.{named}
-use Rattle.interval.specs.Laws.Standing.{found}
-use Rattle.interval.specs.Laws.Cancel.{cancel_blank, cancel_missing, cancel_active, cancel_hit}
+use Rattle.interval.proofs.Laws.Standing.{found}
+use Rattle.interval.proofs.Laws.Cancel.{cancel_blank, cancel_missing, cancel_active, cancel_hit}
 use Rattle.interval.proofs.Seeks.{seeks_hit, seeks_end, seeks_none}
 use Rattle.interval.proofs.cancel.cancel.Goals as goal
 use Rattle.interval.proofs.cancel.cancel.Goals.{else-loop-i-test, then-loop-i-test+then-t-i}

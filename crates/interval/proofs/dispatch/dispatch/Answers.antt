@@ -3,7 +3,7 @@ use Rattle.std.proofs.Common.{◌<◌, get_or, sym, ap, ◌∙◌, arith}
 use Rattle.interval.specs.declared.Requests.{Requests}
 use Rattle.interval.specs.Rows.{out_row}
 use Rattle.interval.specs.Dispatch.{dispatch_in}
-use Rattle.interval.specs.Laws.Dispatch.{dispatch_both, dispatch_hit, dispatch_none}
+use Rattle.interval.proofs.Laws.Dispatch.{dispatch_both, dispatch_hit, dispatch_none}
 use Rattle.interval.proofs.Picks.{free_is, passes_held, passes_other, picks, picks_none}
 use Rattle.interval.proofs.dispatch.dispatch.Goals as goal
 use Rattle.interval.proofs.dispatch.dispatch.Goals.{then-expired+else-free, else-expired}

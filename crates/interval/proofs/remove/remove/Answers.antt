@@ -3,7 +3,7 @@ use Rattle.std.proofs.Common.{refl, ap₂}
 use Rattle.base.specs.Laws.Removing.{removing_on, removing_down, removed_none, removed_some, removed_all, removed_count}
 use Rattle.interval.specs.Rows.{out_row}
 use Rattle.interval.specs.Laws.Typed.{counted}
-use Rattle.interval.specs.Laws.Remove.{removed, nothing_removed}
+use Rattle.interval.proofs.Laws.Remove.{removed, nothing_removed}
 use Rattle.interval.proofs.remove.remove.Goals as goal
 use Rattle.interval.proofs.remove.remove.Goals.{else-found, then-found}
 

@@ -8,8 +8,8 @@ use Rattle.interval.specs.Table.{live, in_phase}
 use Rattle.interval.specs.Rows.{named}
 use Rattle.interval.specs.Retrieve.{task_of, has_own, serves, handed, retrieve_in}
 use Rattle.interval.specs.Laws.Typed.{unmapped}
-use Rattle.interval.specs.Laws.Standing.{found, missing}
-use Rattle.interval.specs.Laws.Retrieve.{task_row, no_task, retrieve_both, retrieve_own, retrieve_served, retrieve_nothing, handing}
+use Rattle.interval.proofs.Laws.Standing.{found, missing}
+use Rattle.interval.proofs.Laws.Retrieve.{task_row, no_task, retrieve_both, retrieve_own, retrieve_served, retrieve_nothing, handing}
 use Rattle.interval.proofs.retrieve.retrieve.Goals as goal
 use Rattle.interval.proofs.retrieve.retrieve.Goals.{After-has_own, then-i-m, else-i-m, then-has_own, else-has_own+else-m-j}
 

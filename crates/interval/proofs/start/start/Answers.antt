@@ -10,7 +10,7 @@ use Rattle.interval.specs.Table.{live}
 use Rattle.interval.specs.Rows.{named}
 use Rattle.interval.specs.declared.answers.Start.{Start}
 use Rattle.interval.specs.Start.{asked, ruled, if_done}
-use Rattle.interval.specs.Laws.Start.{Clear, StartBoth, start_same, start_facts, start_put, start_told, start_count}
+use Rattle.interval.proofs.Laws.Start.{Clear, StartBoth, start_same, start_facts, start_put, start_told, start_count}
 use Rattle.interval.proofs.Seeks.{seeks_hit, seeks_end}
 use Rattle.interval.proofs.start.start.Goals as goal
 use Rattle.interval.proofs.start.start.Goals.{After-rule-o, else-loop-i-test, then-loop-i-test+then-t-i}
