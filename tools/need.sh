@@ -7,7 +7,7 @@ need() { # COMMAND WHAT-TO-DO
 }
 
 # Rattle's toolchain is no Debian package: it must be there.
-need_rattle() { need rt "install the Rattle kit (rattle-kit-5 or newer) first"; }
+need_rattle() { need rt "install the Rattle kit (rattle-kit-13f or newer) first"; }
 
 # Debian's own Rust is too old for the second program (its Cargo.toml names the version): it must be there too.
 need_cargo() { need cargo "install Rust 1.88 or newer first"; }
