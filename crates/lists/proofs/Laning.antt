@@ -23,7 +23,7 @@ use Rattle.monitor.specs.declared.Parts.{Parts}
 use Rattle.monitor.specs.Step.{allowed_in}
 use Rattle.monitor.specs.Table.{tables, no_items, fresh_parts, sound_p}
 use Rattle.monitor.specs.Laws.Fine.{Typed, fresh_fine, fresh_sound}
-use Rattle.monitor.specs.Laws.Held.{parts}
+use Rattle.monitor.proofs.Laws.Held.{parts}
 
 -- the search for the issuer's row stops at it, or behind the rows
 module _ (t : Requests) (n m i : ℕ) (v : Sought (task n) t m i) where

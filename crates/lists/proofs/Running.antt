@@ -17,7 +17,8 @@ use Rattle.monitor.specs.Answers.{laid}
 use Rattle.monitor.specs.Step.{step_on, Lent, lent, turned}
 use Rattle.monitor.specs.Table.{tables, sound_p}
 use Rattle.monitor.specs.Laws.Fine.{Typed}
-use Rattle.monitor.specs.Laws.Step.{step_typed, step_keeps}
+use Rattle.monitor.specs.Laws.Step.{step_typed}
+use Rattle.monitor.proofs.Laws.Step.{step_keeps}
 use Rattle.monitor.specs.declared.Tables.{Tables}
 use Rattle.monitor.specs.declared.settle.Turned.{Turned}
 use Rattle.frames.specs.Reading.{next_at, part_at, records_from, Filled}

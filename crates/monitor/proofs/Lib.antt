@@ -6,3 +6,5 @@ pub mod StoreLaws
 pub mod Obeying
 pub mod Stepping
 pub mod Told
+pub mod Laws
+pub mod Examples

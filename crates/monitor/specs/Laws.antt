@@ -3,6 +3,4 @@ pub mod Room
 pub mod Deeds
 pub mod Step
 pub mod Lanes
-pub mod Held
 pub mod Every
-pub mod Demands

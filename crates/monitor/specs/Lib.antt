@@ -7,4 +7,3 @@ pub mod Step
 pub mod Lanes
 pub mod Laws
 pub mod Monitor
-pub mod Examples

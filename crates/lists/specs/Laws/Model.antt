@@ -17,7 +17,8 @@ use Rattle.interval.specs.Stands.{Means}
 use Rattle.monitor.specs.Step.{step_on}
 use Rattle.monitor.specs.Table.{fresh_parts, fresh_tables, no_items, state_at, sound_p}
 use Rattle.monitor.specs.Laws.Fine.{Typed, fresh_fine, fresh_sound, fresh_stands}
-use Rattle.monitor.specs.Laws.Step.{goes_at, step_typed, step_keeps}
+use Rattle.monitor.specs.Laws.Step.{step_typed}
+use Rattle.monitor.proofs.Laws.Step.{goes_at, step_keeps}
 use Rattle.monitor.specs.declared.Tables.{Tables}
 use Rattle.lists.specs.Run.{answers_on, run_on}
 

@@ -1,6 +1,6 @@
--- One record: the handlers decide as in the model, the three conditions before are the model's, and the tables stand for the state that
--- follows. Assumes nothing.
-use Rattle.std.specs.Prelude.{ℕ, ◌≡◌, refl, Bool, true, false, ◌||◌, List}
+-- One record: the handlers decide as in the model, and the tables that follow are what the struct's type says. (That the step is the model's is
+-- shown in proofs/Laws/Step.antt.) Assumes nothing.
+use Rattle.std.specs.Prelude.{ℕ, ◌≡◌, refl, Bool, true, ◌||◌, List}
 use Rattle.std.proofs.Common.{sym, ◌∙◌, mod-eq_of_lt}
 use Rattle.std.proofs.Math.Path.{ap, subst}
 use Rattle.std.proofs.Math.Dec.{eqb}
@@ -10,7 +10,7 @@ use Rattle.base.specs.Bytes.{is_bytes, blank}
 use Rattle.base.specs.Laws.Tests.{by_test, or_false_l}
 use Rattle.model.specs.Limits.{cabinet}
 use Rattle.model.specs.Plans.{normal, Outcome, outcome_in}
-use Rattle.model.specs.Commands.{Turn, issuer, formed, allowed, obeyed, settled, settle, refused, step}
+use Rattle.model.specs.Commands.{Turn, issuer, formed, allowed, obeyed, settled, settle}
 use Rattle.model.specs.Handlers.{decides}
 use Rattle.model.specs.State.{State, sound}
 use Rattle.model.specs.Demands.{Stepped, Named, nothing, makes, moves, takes, removes}
@@ -27,8 +27,8 @@ use Rattle.handlers.specs.declared.Setting.{Setting}
 use Rattle.handlers.specs.declared.Setting.TheVariants.{Unset, Ignore, Label}
 use Rattle.monitor.specs.declared.Tables.{Tables}
 use Rattle.monitor.specs.Table.{state_at, sound_p}
-use Rattle.monitor.specs.Step.{obeyed_in, decided_in, settle_in, refused_in, allowed_in, step_on}
-use Rattle.monitor.specs.Laws.Fine.{Typed, Fine, Active, active_stands, sound_fine, sound_active, fine_sound}
+use Rattle.monitor.specs.Step.{obeyed_in, decided_in, settle_in, allowed_in, step_on}
+use Rattle.monitor.specs.Laws.Fine.{Typed, Fine, Active, active_stands, sound_fine, sound_active}
 use Rattle.monitor.specs.Laws.Deeds.{Follows, without_fine, without_means, without_stands, obeys_model}
 
 -- what the tables come to, where the model's turn is y
@@ -42,7 +42,7 @@ pub record Goes (x : Stepped Tables) (y : Turn) : Type 0 where
 -- ---- the handlers
 
 -- a condition changes no settings
-named_tasks : (s : State) (r : List ℕ) (c : ℕ) (m : State) → Named s r c m → m.tasks ≡ s.tasks
+pub named_tasks : (s : State) (r : List ℕ) (c : ℕ) (m : State) → Named s r c m → m.tasks ≡ s.tasks
 named_tasks s r c m (nothing e) = ap (λ (x : State). x.tasks) e
 named_tasks s r c m (makes _ _ e) = ap (λ (x : State). x.tasks) e
 named_tasks s r c m (moves _ _ e) = ap (λ (x : State). x.tasks) e
@@ -65,7 +65,7 @@ module _ (o : Outcome Tables) (n : ℕ) where
   decided_goes m d x = subst (λ (y : Outcome State). Goes (decided_in o n x) (settled y n (setting_of x))) d.outcome (decided_here d.clock d.means d.fine x)
 
   -- where a condition arises for a task, the settings are as they were before the command
-  settle_goes : (s : State) (m : Outcome State) → Follows o m → ((m.condition ≡ 0 → ⊥) → m.state.tasks ≡ s.tasks) → Goes (settle_in n o) (settle s n m)
+  pub settle_goes : (s : State) (m : Outcome State) → Follows o m → ((m.condition ≡ 0 → ⊥) → m.state.tasks ≡ s.tasks) → Goes (settle_in n o) (settle s n m)
   unfolding settle_in
   settle_goes s m d same =
       let same-condition : o.condition ≡ m.condition = ap (λ (y : Outcome State). y.condition) d.outcome in
@@ -97,41 +97,26 @@ module _ (c : ℕ) (t : Tables) (m : Means t.parts.requests c) (f : Fine t) wher
         active = a;
       })
 
-  module _ (r : List ℕ) where
-    pub step_goes : is_bytes r ≡ true → Active (state_at c t) → Goes (step_on t r) (step cabinet (state_at c t) r)
-    unfolding step_on step
-    step_goes b a =
-        let s = state_at c t in
-        let stays : (k : ℕ) → Goes (refused_in t k) (refused s k) = λ k. record { clock = c; answer = refl; stands = refl; means = m; fine = f } in
-        by_test (formed r)
-        (λ e. rw e
-        (by_test (allowed s r)
-        (λ h. rw (allowed_stands c t r, h)
-        (settle_goes (obeyed_in t r) (issuer r) s (obeyed cabinet s r) (obeys_model c t m f r b a h e)
-        (λ z. named_tasks s r _ _ (heard_kept cabinet s r z))))
-        (λ h. rw (allowed_stands c t r, h) (stays 34))))
-        (λ e. rw e (stays 33))
-
--- ---- from sound tables, at a clock that their register can mean
+-- ---- from sound tables
 
 module _ (t : Tables) (y : Typed t) (k : sound_p t.parts ≡ true) (r : List ℕ) (b : is_bytes r ≡ true) where
-  pub goes_at : (c : ℕ) → Means t.parts.requests c → Goes (step_on t r) (step cabinet (state_at c t) r)
-  goes_at c m = step_goes c t m (sound_fine c t y k) r b (sound_active c t k)
-
   -- the register means its own value
   abbrev own : ℕ
   own = t.parts.requests.register
 
-  own_means : Means t.parts.requests own
+  pub own_means : Means t.parts.requests own
   own_means = sym (mod-eq_of_lt y.requests.register)
 
-  pub step_typed : Typed (step_on t r).tables
-  step_typed = (goes_at own own_means).fine.typed
+  heard_typed : formed r ≡ true → allowed_in t.parts r ≡ true → Typed (settle_in (issuer r) (obeyed_in t r)).tables
+  heard_typed e h =
+      let s = state_at own t in
+      let d = obeys_model own t own_means (sound_fine own t y k) r b (sound_active own t k) (sym (allowed_stands own t r) ∙ h) e in
+      (settle_goes (obeyed_in t r) (issuer r) s (obeyed cabinet s r) d (λ z. named_tasks s r _ _ (heard_kept cabinet s r z))).fine.typed
 
-  pub step_keeps : sound_p (step_on t r).tables.parts ≡ true
-  step_keeps =
-      let f = sound_fine own t y k in
-      let g = goes_at own own_means in
-      let s = state_sound own t own_means f (sound_active own t k) in
-      let a = (model.view cabinet (step cabinet (state_at own t) r).state (model.step_sound cabinet (state_at own t) r s b)).active in
-      fine_sound g.clock (step_on t r).tables g.fine (subst Active (sym g.stands) a)
+  -- whichever of the two tests is made first
+  pub step_typed : Typed (step_on t r).tables
+  unfolding step_on
+  step_typed =
+      by_test (formed r)
+      (λ e. by_test (allowed_in t.parts r) (λ h. simp (e, h) (heard_typed e h)) (λ h. simp (e, h) y))
+      (λ e. by_test (allowed_in t.parts r) (λ h. simp (e, h) y) (λ h. simp (e, h) y))

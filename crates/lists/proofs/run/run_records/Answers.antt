@@ -20,8 +20,8 @@ use Rattle.monitor.specs.Requests.{asks, ask_of}
 use Rattle.monitor.specs.Store.{stores, store_ask}
 use Rattle.monitor.specs.Lanes.{laned}
 use Rattle.monitor.proofs.Arms.{last_arm, last_store_arm}
-use Rattle.monitor.specs.Laws.Held.{Held, held, held_of, held_setting, held_turned, held_end, parts, decided, undecided, ended, went_on, held_lane, held_step}
-use Rattle.monitor.specs.Laws.Held.{asked_of, asked_by, asked_yes, asked_ticks, asked_not, stored_of, stored_by, stored_yes, stored_not, made_of, made_by, made_yes, made_not}
+use Rattle.monitor.proofs.Laws.Held.{Held, held, held_of, held_setting, held_turned, held_end, parts, decided, undecided, ended, went_on, held_lane, held_step}
+use Rattle.monitor.proofs.Laws.Held.{asked_of, asked_by, asked_yes, asked_ticks, asked_not, stored_of, stored_by, stored_yes, stored_not, made_of, made_by, made_yes, made_not}
 use Rattle.monitor.specs.Step.{allowed_in, step_on, lent, turned}
 use Rattle.monitor.specs.Table.{no_items, tables, store_of, fresh_parts}
 use Rattle.monitor.specs.declared.Parts.{Parts}

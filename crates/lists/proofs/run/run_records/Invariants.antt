@@ -2,7 +2,7 @@ use Prim.Native.Nat.{◌-◌}
 use lib.ListN.{length}
 use Rattle.interval.specs.Active.{task}
 use Rattle.interval.proofs.Seeks.{Sought}
-use Rattle.monitor.specs.Laws.Held.{parts}
+use Rattle.monitor.proofs.Laws.Held.{parts}
 use Rattle.monitor.specs.Table.{tables}
 use Rattle.lists.proofs.Running.{Running}
 use Rattle.lists.proofs.run.run_records.Given as goal

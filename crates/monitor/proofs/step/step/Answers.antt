@@ -1,7 +1,7 @@
 -- `step::step` meets its contract. Assumes nothing.
 use mathlib.Core.Path.{sym, ◌∙◌}
 use Rattle.base.specs.Laws.Told.{bytes_told}
-use Rattle.monitor.specs.Laws.Demands.{replies}
+use Rattle.monitor.proofs.Laws.Demands.{replies}
 use Rattle.monitor.proofs.Told.{tables_typed}
 use Rattle.monitor.proofs.Stepping.{unsound, stepped}
 use Rattle.monitor.proofs.step.step.Goals as goal

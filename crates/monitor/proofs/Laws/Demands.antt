@@ -27,7 +27,8 @@ use Rattle.monitor.specs.Table.{fresh_parts, no_items, state_at, sound_p}
 use Rattle.monitor.specs.Step.{allowed_in, step_on, step_in, whole}
 use Rattle.monitor.specs.Monitor.{Held, StandsFor, stays, goes_by, step_held, bare, Replies, cabinet_monitor}
 use Rattle.monitor.specs.Laws.Fine.{fresh_sound, fresh_stands, sound_fine, sound_active}
-use Rattle.monitor.specs.Laws.Step.{goes_at, step_keeps, state_sound, allowed_stands}
+use Rattle.monitor.specs.Laws.Step.{state_sound, allowed_stands}
+use Rattle.monitor.proofs.Laws.Step.{goes_at, step_keeps}
 use Rattle.monitor.specs.Laws.Every.{tables_for, every_typed, every_means, every_stands, every_sound}
 
 -- ---- its step is the exact definition

@@ -13,7 +13,7 @@ use Rattle.model.specs.Lists.{answers_from}
 use Rattle.model.specs.Demands.{answers, are_bytes}
 use Rattle.model.specs.Examples.{by, long, ok, ans, tasked, tasked_answers, astray}
 use Rattle.monitor.specs.Monitor.{fresh_held, cabinet_monitor}
-use Rattle.monitor.specs.Laws.Demands.{demand3}
+use Rattle.monitor.proofs.Laws.Demands.{demand3}
 
 module _ (v : ℕ) (h : v < 2 ^ 32) where
   -- what the model answers the monitor answers
