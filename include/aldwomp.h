@@ -2,7 +2,8 @@
  *
  * The function is compiled from the proved crate `embed` (crates/embed): its code, *written and every byte of the answer
  * buffer are those of the model in crates/model, for every list and every buffer, a refused list too. Link with
- * target/staticlib/libembed.a, which `rt staticlib embed` makes; it is for x86-64 Linux and needs memcpy, memmove and memset alone.
+ * crates/embed/out/libembed.a, which `rt lib` makes in crates/embed. It is for x86-64 Linux, on a processor of level x86-64-v2 or
+ * above (it does not test that), and needs memcpy, memmove and memset alone.
  *
  * It allocates nothing, keeps nothing between calls and has no global data: each call runs its list from fresh, empty tables.
  * Any number of threads may call it at once, each with a buffer and a count of its own. It takes no lock, makes no system call
