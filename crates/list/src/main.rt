@@ -32,12 +32,11 @@ fn read_list(input: &mut impl Read, list: &mut [u8]) -> Option<usize>
     let mut n: usize = 0;
     while n < list.len() {
         match input.read(&mut list[n..]) {
-            Ok(0) => return Some(n),
-            Ok(got) => n += got,
-            Err(_) => return None,
+            Ok(got) if got > 0 => n += got,
+            _ => break,
         }
     }
-    let mut more = [0u8; 1];
+    let mut more = [0u8; 65536];
     match input.read(&mut more) {
         Ok(0) => Some(n),
         _ => None,
