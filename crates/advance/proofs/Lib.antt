@@ -1,2 +1,3 @@
 mod Ranks
 mod Heads
+mod Turned

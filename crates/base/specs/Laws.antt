@@ -15,4 +15,5 @@ pub mod Removing
 pub mod Index
 pub mod Told
 pub mod Unique
+pub mod Library
 pub mod Placing

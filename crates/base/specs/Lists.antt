@@ -1,12 +1,12 @@
--- Lists by a test, over any element type; and lists of numbers as sets.
-use Rattle.std.specs.Prelude.{ℕ, suc, ◌+◌, Bool, true, false, not, ◌&&◌, List, [], ◌∷◌, ◌++◌, length, take, drop, eqb}
+-- Lists by a test, over any element type, in the library's words where it has one; and lists of numbers as sets.
+use Rattle.std.specs.Prelude.{ℕ, suc, ◌+◌, Bool, true, false, not, ◌&&◌, List, [], ◌∷◌, ◌++◌, length, take, drop, eqb, filter}
+use Rattle.std.specs.List.{list_all}
 use Rattle.base.specs.Choice.{pick}
 
 module _ {A : Type 0} where
   -- what passes the test, in order
   abbrev pub keep : (A → Bool) → List A → List A
-  keep p [] = []
-  keep p (x ∷ xs) = pick (p x) (x ∷ keep p xs) (keep p xs)
+  keep p l = filter p l
 
   -- does one pass
   abbrev pub any : (A → Bool) → List A → Bool
@@ -15,8 +15,7 @@ module _ {A : Type 0} where
 
   -- do all pass
   abbrev pub all : (A → Bool) → List A → Bool
-  all p [] = true
-  all p (x ∷ xs) = p x && all p xs
+  all p l = list_all p l
 
   -- the first that passes, or d
   abbrev pub first : (A → Bool) → A → List A → A

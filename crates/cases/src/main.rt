@@ -3,8 +3,8 @@
 // is refused as no bytes are.
 #![tactic(auto)]
 
-ghost use Rattle.std.specs.Prelude.{◌<◌};
 ghost use Rattle.std.specs.Counts.{IsPrefixLen};
+ghost use Rattle.std.specs.Prelude.{◌<◌, IfSome};
 
 use printed::form::form;
 use std::io::Read;
@@ -12,49 +12,58 @@ use std::io::Read;
 // Two digits for each byte of a list that is one byte too long: what stands behind them in its line changes nothing.
 const LINE: usize = 8194;
 
+// A line as far as it is read: the programs have no heap.
+#[derive(Drop)]
+struct Line {
+    digits: [u8; LINE],
+    len: usize,
+}
+
+impl Line {
+    fn push(&mut self, byte: u8) {
+        if self.len < LINE {
+            self.digits[self.len] = byte;
+            self.len += 1;
+        }
+    }
+}
+
 // A proved loop has to end, and nothing says that its input does: it has more turns than any run uses up.
 fn main(rt: HostRuntime) {
     let mut input = rt.stdin();
     let mut chunk = [0u8; 65536];
-    let mut line = [0u8; LINE];
-    let mut n: usize = 0;
+    let mut line = Line {
+        digits: [0; LINE],
+        len: 0,
+    };
     for _ in 0..u64::MAX {
         match input.read(&mut chunk) {
-            Ok(got) if got > 0 => n = serve(&rt, &chunk[..got], &mut line, n),
+            Ok(got) if got > 0 => serve(&rt, &chunk[..got], &mut line),
             _ => break,
         }
     }
-    if n > 0 {
-        answer(&rt, &line, n);
+    if line.len > 0 {
+        answer(&rt, &line);
     }
 }
 
-// Answers each line that ends in the chunk. The first n bytes of `line` are a line begun before; returns how many are begun behind.
-fn serve(rt: &(impl Print + Eprint), chunk: &[u8], line: &mut [u8], n: usize) -> usize {
-    let mut held = n;
+// Answers each line that ends in the chunk, the first of them begun before; holds what is begun behind.
+fn serve(rt: &(impl Print + Eprint), chunk: &[u8], line: &mut Line) {
     for byte in chunk {
-        held = take(rt, *byte, line, held);
+        if *byte == b'\n' {
+            answer(rt, line);
+            line.len = 0;
+        } else {
+            line.push(*byte);
+        }
     }
-    held
 }
 
-fn take(rt: &(impl Print + Eprint), byte: u8, line: &mut [u8], n: usize) -> usize {
-    if byte == b'\n' {
-        answer(rt, line, n);
-        return 0;
-    }
-    if n < line.len() {
-        line[n] = byte;
-        return n + 1;
-    }
-    n
-}
-
-// The first n bytes of the line are a list in hex.
-fn answer(rt: &(impl Print + Eprint), line: &[u8], n: usize) {
+// The line is a list in hex. What is not is refused as no bytes are.
+fn answer(rt: &(impl Print + Eprint), line: &Line) {
     let mut list = [0u8; 4097];
     let mut text = [0u8; 65536];
-    let size = bytes_of(line, n, &mut list);
+    let size = bytes_of(line, &mut list).unwrap_or(0);
     let k = form(&list[..size], &mut text);
     if rt.write_all(&text[..k]).is_err() {
         let _ = rt.eprintln("cases: the answers could not be written");
@@ -62,43 +71,28 @@ fn answer(rt: &(impl Print + Eprint), line: &[u8], n: usize) {
     let _ = rt.write_all(b".\n");
 }
 
-// The bytes that n hex digits stand for; none where a digit is missing, is no digit, or has no room.
-fn bytes_of(line: &[u8], n: usize, list: &mut [u8]) -> usize
-    ensures { IsPrefixLen result list.new }
+// How many bytes the digits stand for; None where a digit is missing, is no digit, or has no room.
+fn bytes_of(line: &Line, list: &mut [u8]) -> Option<usize>
+    ensures { IfSome result (λ n. IsPrefixLen n list.new) }
 {
-    if n > line.len() {
-        return 0;
+    let (pairs, odd) = line.digits.get(..line.len)?.as_chunks::<2>();
+    if !odd.is_empty() || pairs.len() > list.len() {
+        return None;
     }
-    if n % 2 != 0 {
-        return 0;
+    for (byte, [high, low]) in list.iter_mut().zip(pairs) {
+        *byte = digit(*high)? * 16 + digit(*low)?;
     }
-    if n / 2 > list.len() {
-        return 0;
-    }
-    let mut i: usize = 0;
-    while i < n / 2 {
-        let high = digit(line[2 * i]);
-        let low = digit(line[2 * i + 1]);
-        if high > 15 {
-            return 0;
-        }
-        if low > 15 {
-            return 0;
-        }
-        list[i] = high * 16 + low;
-        i = i + 1;
-    }
-    i
+    Some(pairs.len())
 }
 
-// A hex digit of either case, or 16.
-fn digit(byte: u8) -> u8
-    ensures { result < 17 }
+// A hex digit of either case.
+fn digit(byte: u8) -> Option<u8>
+    ensures { IfSome result (λ d. d < 16) }
 {
     match byte {
-        b'0'..=b'9' => byte - 48,
-        b'a'..=b'f' => byte - 87,
-        b'A'..=b'F' => byte - 55,
-        _ => 16,
+        b'0'..=b'9' => Some(byte - b'0'),
+        b'a'..=b'f' => Some(byte - b'a' + 10),
+        b'A'..=b'F' => Some(byte - b'A' + 10),
+        _ => None,
     }
 }

@@ -12,7 +12,14 @@ ghost use Rattle.lists.specs.Run.{reply};
 pub extern "C" fn aldwomp_run(list: &[u8], out: &mut [u8], written: &mut usize) -> u32
     ensures model { reply result written.new out.new ≡ run cabinet list.now out.old }
 {
-    let r = lists::run::run(list, out);
-    *written = r.written;
-    r.code
+    match lists::run::run(list, out) {
+        Ok(n) => {
+            *written = n;
+            0
+        }
+        Err(refused) => {
+            *written = 0;
+            u32::from(refused)
+        }
+    }
 }

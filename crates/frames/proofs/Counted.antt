@@ -6,26 +6,26 @@ use native.Mathlib.Omega.{arith}
 use lib.ListN.{length, take, drop}
 use Rattle.base.specs.Bytes.{num}
 use Rattle.model.specs.Lists.{Framed, bad, good, behind}
-use Rattle.frames.specs.Framing.{framing}
+use Rattle.std.specs.Prelude.{Option, None, Some}
+use Rattle.frames.specs.Framing.{accepted, framing}
 use Rattle.frames.specs.Reading.{next_at, part_at, left}
 use Rattle.frames.specs.Laws.Records.{left_end, left_bad, left_on}
 use Rattle.frames.specs.Laws.Reading.{end_told, bad_told, record_told}
-use Rattle.frames.specs.declared.framing.Framing.{Framing}
-use Rattle.frames.specs.declared.framing.Framing.TheVariants.{Refused, Framed as Accepted}
+use Rattle.frames.specs.declared.framing.Framed.{Framed as Accepted}
 use Rattle.frames.specs.declared.reading.Part.TheVariants.{Record, End, Bad}
 
 -- k records, and those that are left
-abbrev counted : ℕ → Framed → Framing
-counted k bad = Refused
-counted k (good v rs) = Accepted (k + length rs) v
+abbrev counted : ℕ → Framed → Option Accepted
+counted k bad = None
+counted k (good v rs) = Some (accepted (k + length rs) v)
 
 counted_none : (x : Framed) → framing x ≡ counted 0 x
 counted_none bad = refl
-counted_none (good v rs) = let e : length rs ≡ 0 + length rs = omega arith in ap (λ (k : ℕ). Accepted k v) e
+counted_none (good v rs) = let e : length rs ≡ 0 + length rs = omega arith in ap (λ (k : ℕ). Some (accepted k v)) e
 
 counted_one : (k : ℕ) (r : List ℕ) (x : Framed) → counted k (behind r x) ≡ counted (k + 1) x
 counted_one k r bad = refl
-counted_one k r (good v rs) = let e : k + suc (length rs) ≡ k + 1 + length rs = omega arith in ap (λ (m : ℕ). Accepted m v) e
+counted_one k r (good v rs) = let e : k + suc (length rs) ≡ k + 1 + length rs = omega arith in ap (λ (m : ℕ). Some (accepted m v)) e
 
 -- the loop has passed k records and stands at `at`
 pub record Passed (v : ℕ) (l : List ℕ) (at k : ℕ) : Type 0 where
@@ -48,10 +48,10 @@ module _ (v : ℕ) (l : List ℕ) (at k : ℕ) (p : Passed v l at k) where
         same = rw t.1.ends (p.same ∙ ap (counted k) on ∙ counted_one k r (left v l (next_at l at)));
       }
 
-  pub passed_end : End ≡ part_at l at → Accepted k v ≡ framing (left v l 9)
+  pub passed_end : End ≡ part_at l at → Some (accepted k v) ≡ framing (left v l 9)
   passed_end q =
       let e : k + 0 ≡ k = omega arith in
-      sym (p.same ∙ ap (counted k) (left_end v l at (end_told l at q)) ∙ ap (λ (m : ℕ). Accepted m v) e)
+      sym (p.same ∙ ap (counted k) (left_end v l at (end_told l at q)) ∙ ap (λ (m : ℕ). Some (accepted m v)) e)
 
-  pub passed_bad : Bad ≡ part_at l at → Refused ≡ framing (left v l 9)
+  pub passed_bad : Bad ≡ part_at l at → None ≡ framing (left v l 9)
   passed_bad q = let t = bad_told l at q in sym (p.same ∙ ap (counted k) (left_bad v l at t.0 t.1))

@@ -1,10 +1,13 @@
 -- What framing answers, by the model's definition of a framed list.
-use Rattle.std.specs.Prelude.{length}
+use Rattle.std.specs.Prelude.{ℕ, length, Option, None, Some}
 use Rattle.model.specs.Lists.{Framed, bad, good}
-use Rattle.frames.specs.declared.framing.Framing.{Framing}
-use Rattle.frames.specs.declared.framing.Framing.TheVariants.{Refused, Framed as Accepted}
+use Rattle.frames.specs.declared.framing.Framed.{Framed as Accepted}
 
--- "List refused (35)", or the number of its records and the start value of the register
-abbrev pub framing : Framed → Framing
-framing bad = Refused
-framing (good v rs) = Accepted (length rs) v
+-- the number of the records, and the start value of the register
+abbrev pub accepted : ℕ → ℕ → Accepted
+accepted n v = record { records = n; start = v }
+
+-- nothing for "List refused (35)"
+abbrev pub framing : Framed → Option Accepted
+framing bad = None
+framing (good v rs) = Some (accepted (length rs) v)

@@ -4,24 +4,24 @@ ghost use Rattle.model.specs.Lists.{headed, framed};
 ghost use Rattle.frames.specs.Framing.{framing};
 ghost use Rattle.frames.specs.Reading.{left};
 
-use super::numbers::read4;
 use super::reading::{Part, record_at};
+use base::bytes::number_at;
 
-// "List refused (35)", or how many records it has and the start value of the register.
+// What is read of a list that is accepted: how many records it has, and the start value of the register.
 #[derive(Clone, Copy)]
-pub enum Framing {
-    Refused,
-    Framed { records: usize, start: u32 },
+pub struct Framed {
+    pub records: usize,
+    pub start: u32,
 }
 
-pub fn frame(list: &[u8]) -> Framing
+// None where the list is refused (35).
+pub fn frame(list: &[u8]) -> Option<Framed>
     ensures exact { result ≡ framing (framed list.now) }
 {
     if headed(list) {
-        let start = read4(list, 5);
-        scan(list, start as u32)
+        scan(list, number_at(list, 5, 4) as u32)
     } else {
-        Framing::Refused
+        None
     }
 }
 
@@ -29,21 +29,13 @@ pub fn frame(list: &[u8]) -> Framing
 fn headed(list: &[u8]) -> bool
     ensures { result ≡ headed list.now }
 {
-    if list.len() < 9 {
-        return false;
-    }
-    if list.len() > 4096 {
-        return false;
-    }
-    let n = read4(list, 0);
-    if n + 4 != list.len() {
-        return false;
-    }
-    list[4] == 1
+    (9..=4096).contains(&list.len())
+        && number_at(list, 0, 4) + 4 == list.len() as u64
+        && list[4] == 1
 }
 
 // "Records fill the list exactly": they are counted.
-fn scan(list: &[u8], start: u32) -> Framing
+fn scan(list: &[u8], start: u32) -> Option<Framed>
     ensures { result ≡ framing (left start list.now 9) }
 {
     let mut at: usize = 9;
@@ -52,14 +44,10 @@ fn scan(list: &[u8], start: u32) -> Framing
         match record_at(list, at) {
             Part::Record { start: _, next } => {
                 at = next;
-                records = records + 1;
+                records += 1;
             }
-            Part::End => {
-                return Framing::Framed { records, start };
-            }
-            Part::Bad => {
-                return Framing::Refused;
-            }
+            Part::End => return Some(Framed { records, start }),
+            Part::Bad => return None,
         }
     }
 }

@@ -3,7 +3,8 @@
 // list, every place in it, every buffer and every answer.
 #![tactic(auto)]
 
+pub mod action;
 pub mod framing;
-mod numbers;
 pub mod reading;
+pub mod refused;
 pub mod writing;

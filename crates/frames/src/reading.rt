@@ -3,7 +3,7 @@
 ghost use Rattle.std.specs.Prelude.{◌≡◌};
 ghost use Rattle.frames.specs.Reading.{part_at};
 
-use super::numbers::read2;
+use base::bytes::number_at;
 
 #[derive(Clone, Copy)]
 pub struct Reader<'a> {
@@ -12,6 +12,7 @@ pub struct Reader<'a> {
 }
 
 // What stands at a place: a record, its bytes from start to next; the end; or what no record is.
+// Three answers: a Result of an Option would nest two words for what is read as one.
 #[derive(Clone, Copy)]
 pub enum Part {
     Record { start: usize, next: usize },
@@ -26,19 +27,14 @@ pub fn record_at(list: &[u8], at: usize) -> Part
     if list.len() <= at {
         return Part::End;
     }
-    if list.len() - at < 2 {
-        return Part::Bad;
-    }
-    let n = read2(list, at);
-    if n < 9 {
-        return Part::Bad;
-    }
-    if list.len() - at - 2 < n {
-        return Part::Bad;
-    }
-    Part::Record {
-        start: at + 2,
-        next: at + 2 + n,
+    let n = number_at(list, at, 2) as usize;
+    if 9 <= n && 2 + n <= list.len() - at {
+        Part::Record {
+            start: at + 2,
+            next: at + 2 + n,
+        }
+    } else {
+        Part::Bad
     }
 }
 

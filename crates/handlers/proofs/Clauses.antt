@@ -2,27 +2,17 @@
 use Prim.Native.Nat.{ℕ, ◌^◌, ◌<◌}
 use mathlib.Core.Path.{◌≡◌, ap, ◌∙◌}
 use mathlib.Core.Bool.{true}
-use mathlib.Core.List.{map}
-use lib.ListN.{take}
 use Rattle.model.specs.Handlers as model
 use Rattle.handlers.specs.declared.Setting.{Setting}
 use Rattle.handlers.specs.declared.Tasks.{Tasks}
 use Rattle.handlers.specs.declared.answers.Handled.{Handled}
-use Rattle.handlers.specs.declared.answers.Names.{Names}
 use Rattle.handlers.specs.Table.{setting_of, tasks_of, sound_h}
-use Rattle.handlers.specs.Fresh.{no_tasks, Fresh}
-use Rattle.handlers.proofs.Laws.Kept.{none_fresh}
 use Rattle.handlers.specs.Set.{handle_in, ignore_in, reset_in, room, Done}
 use Rattle.handlers.specs.Decide.{decide_in}
 use Rattle.handlers.specs.Forget.{forget_in, Forgotten}
-use Rattle.handlers.specs.Names.{names_in}
-use Rattle.handlers.specs.Laws.Standing.{names_listed}
 use Rattle.handlers.proofs.Laws.Set.{handle_done, ignore_done, reset_done}
 use Rattle.handlers.specs.Laws.Decide.{decide_stands}
 use Rattle.handlers.specs.Laws.Forget.{forget_done}
-
-pub fresh_both : (r : Tasks) → r ≡ no_tasks → (r ≡ no_tasks) × Fresh r
-fresh_both r e = (e, rw e none_fresh)
 
 module _ (t : Tasks) (n c : ℕ) (r : Handled) where
   pub handle_both : (label : ℕ) → label < 2 ^ 16 → r ≡ handle_in t n c label
@@ -41,7 +31,3 @@ decide_both t n c r e = (e, ap setting_of e ∙ decide_stands t n c)
 
 pub forget_both : (t : Tasks) (n : ℕ) (r : Tasks) → r ≡ forget_in t n → (r ≡ forget_in t n) × (sound_h t ≡ true → Forgotten t n r)
 forget_both t n r e = (e, λ s. rw e (forget_done t n s))
-
-pub names_both : (t : Tasks) (r : Names) → r ≡ names_in t
-    → (r ≡ names_in t) × (take r.count r.list ≡ map (λ (m : model.Task). m.name) (tasks_of t))
-names_both t r e = (e, ap (λ (k : Names). take k.count k.list) e ∙ names_listed t)

@@ -1,5 +1,5 @@
 -- Rows: their names, a task with nothing set, a setting read and made, and the rows without one of them.
-use Rattle.std.specs.Prelude.{ℕ, suc, Bool, [], eqb, get_or, set, replicate}
+use Rattle.std.specs.Prelude.{ℕ, Bool, [], eqb, get_or, set, replicate}
 use Rattle.base.specs.Lists.{first, first_at}
 use Rattle.model.specs.Handlers as model
 use Rattle.handlers.specs.declared.Setting.{Setting}
@@ -7,7 +7,6 @@ use Rattle.handlers.specs.declared.Setting.TheVariants.{Unset}
 use Rattle.handlers.specs.declared.Cell.{Cell}
 use Rattle.handlers.specs.declared.Task.{Task}
 use Rattle.handlers.specs.declared.Tasks.{Tasks}
-use Rattle.handlers.specs.declared.rows.Found.{Found}
 use Rattle.handlers.specs.Table.{live, task_of}
 
 abbrev pub named : ℕ → Task → Bool
@@ -40,9 +39,6 @@ place_in t n = first_at (named n) (live t)
 -- its row, all unset where it has none
 abbrev pub task_in : Tasks → ℕ → Task
 task_in t n = first (named n) (unset_row n) (live t)
-
-abbrev pub found_in : Tasks → ℕ → Found
-found_in t n = record { at = place_in t n; task = task_in t n }
 
 -- another row at i
 abbrev pub with_row : Tasks → ℕ → Task → Tasks

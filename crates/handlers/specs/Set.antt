@@ -1,5 +1,5 @@
 -- 15 handle, 16 ignore, 17 reset.
-use Rattle.std.specs.Prelude.{ℕ, ◌≡◌, Bool, true, ◌||◌, List, [], ◌∷◌, ◌++◌, ltb, eqb, length}
+use Rattle.std.specs.Prelude.{ℕ, ◌≡◌, Bool, true, ◌||◌, List, [], ◌∷◌, ◌++◌, Result, Ok, Err, ltb, eqb, length}
 use Rattle.base.specs.Choice.{pick}
 use Rattle.base.specs.Lists.{any}
 use Rattle.model.specs.Plans.{normal, invalid_request, Outcome, Plan, first_of, obey}
@@ -8,8 +8,7 @@ use Rattle.handlers.specs.declared.Setting.{Setting}
 use Rattle.handlers.specs.declared.Setting.TheVariants.{Unset, Ignore, Label}
 use Rattle.handlers.specs.declared.Task.{Task}
 use Rattle.handlers.specs.declared.Tasks.{Tasks}
-use Rattle.handlers.specs.declared.answers.Outcome as answer
-use Rattle.handlers.specs.declared.answers.Outcome.TheVariants as answers
+use Rattle.handlers.specs.declared.answers.Invalid.{Invalid}
 use Rattle.handlers.specs.declared.answers.Handled.{Handled}
 use Rattle.handlers.specs.Table.{live, with_live, tasks_of, sound_h}
 use Rattle.handlers.specs.Rows.{named, place_in, task_in, with_row, with_setting}
@@ -27,7 +26,7 @@ set_in t n c x = put_in t (place_in t n) (with_setting c x (task_in t n))
 
 -- all three commands: where a test refuses it nothing changes
 abbrev pub set_to : Bool → Tasks → ℕ → ℕ → Setting → Handled
-set_to refused t n c x = pick refused (record { tasks = t; outcome = answers.Invalid }) (record { tasks = set_in t n c x; outcome = answers.Done })
+set_to refused t n c x = pick refused (record { tasks = t; outcome = Err (record {}) }) (record { tasks = set_in t n c x; outcome = Ok tt })
 
 -- "10 condition above 10 or label 0"
 unfoldable pub handle_in : Tasks → ℕ → ℕ → ℕ → Handled
@@ -41,9 +40,9 @@ unfoldable pub reset_in : Tasks → ℕ → ℕ → Handled
 reset_in t n c = set_to (ltb 10 c) t n c Unset
 
 -- document 01's number of an outcome
-abbrev pub condition_of : answer.Outcome → ℕ
-condition_of answers.Done = normal
-condition_of answers.Invalid = invalid_request
+abbrev pub condition_of : Result (Unit {0}) Invalid → ℕ
+condition_of (Ok u) = normal
+condition_of (Err e) = invalid_request
 
 -- what a command has done, in the words of the model: it comes to what the plan says, and its settings are sound
 pub record Done (t : Tasks) (r : Handled) (p : Plan (List model.Task)) : Type 0 where

@@ -2,22 +2,12 @@
 use crate::Tasks;
 
 // "10 condition above 10 or label 0"
-#[derive(Clone, Copy)]
-pub enum Outcome {
-    Done,
-    Invalid,
-}
+#[derive(Clone, Copy, PartialEq, Eq)]
+pub struct Invalid;
 
-// The settings after the command, and its outcome.
+// The settings after the command, and its outcome: where it is refused they are those before it.
 #[derive(Clone, Copy)]
 pub struct Handled {
     pub tasks: Tasks,
-    pub outcome: Outcome,
-}
-
-// The names of the tasks that have a row: the first `count` of the list, in the order of the rows. The others are 0.
-#[derive(Clone, Copy)]
-pub struct Names {
-    pub count: usize,
-    pub list: [u64; 16],
+    pub outcome: Result<(), Invalid>,
 }

@@ -11,21 +11,21 @@ use crate::{Setting, Task, Tasks, rows};
 fn setting_at(v: Task, condition: u8) -> Setting
     ensures { result ≡ setting_at condition v }
 {
-    if condition > 10 {
-        return Setting::Unset;
+    match v.cells.get(usize::from(condition)) {
+        Some(e) => e.setting,
+        None => Setting::Unset,
     }
-    let c = condition as usize;
-    let e = v.cells[c];
-    e.setting
 }
 
-fn or_else(own: Setting, general: Setting) -> Setting
-    ensures { result ≡ or_else own general }
-{
-    match own {
-        Setting::Unset => general,
-        Setting::Ignore => own,
-        Setting::Label(_) => own,
+impl Setting {
+    // "if unset, setting 0"
+    fn or_else(self, general: Setting) -> Setting
+        ensures { result ≡ or_else self general }
+    {
+        match self {
+            Setting::Unset => general,
+            own => own,
+        }
     }
 }
 
@@ -34,9 +34,11 @@ pub fn decide(t: Tasks, name: u64, condition: u8) -> Setting
     ensures exact { result ≡ decide_in t name condition }
     ensures model { setting_of result ≡ model.decides (tasks_of t) name condition }
 {
-    let f = rows::find(t, name);
-    let v = f.task;
+    let Some(i) = rows::place(&t, name) else {
+        return Setting::Unset;
+    };
+    let v = t.rows[i];
     let own = setting_at(v, condition);
     let general = setting_at(v, 0);
-    or_else(own, general)
+    own.or_else(general)
 }

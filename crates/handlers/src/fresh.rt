@@ -4,6 +4,7 @@ ghost use Rattle.handlers.specs.Fresh.{no_tasks, Fresh};
 
 use crate::{Tasks, rows};
 
+#[tactic(auto, using(crate::proofs::Laws::Kept::none_fresh), unfolding(crate::specs::Fresh::no_tasks))]
 pub fn fresh() -> Tasks
     ensures exact { result ≡ no_tasks }
     ensures model { Fresh result }

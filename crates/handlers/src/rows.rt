@@ -1,16 +1,9 @@
 // The rows: one with nothing set, and where a name stands.
-ghost use Rattle.std.specs.Prelude.{◌≡◌};
-ghost use Rattle.handlers.specs.Rows.{unset_row, found_in};
+ghost use Rattle.std.specs.Prelude.{◌≡◌, position};
+ghost use Rattle.handlers.specs.Table.{live};
+ghost use Rattle.handlers.specs.Rows.{unset_row, named};
 
 use crate::{Cell, Setting, Task, Tasks};
-use base::sets::least;
-
-// Where a row stands, and what it holds.
-#[derive(Clone, Copy)]
-pub struct Found {
-    pub at: usize,
-    pub task: Task,
-}
 
 // "All are unset at dispatch."
 pub(crate) fn unset_row(name: u64) -> Task
@@ -25,19 +18,9 @@ pub(crate) fn unset_row(name: u64) -> Task
     }
 }
 
-// The first row of that name; where none has it, the place behind them all, and a row with nothing set.
-pub(crate) fn find(t: Tasks, name: u64) -> Found
-    ensures { result ≡ found_in t name }
+// The place of the first row of that name, if one has it.
+pub(crate) fn place(t: &Tasks, name: u64) -> Option<usize>
+    ensures { result ≡ position (named name) (live t.now) }
 {
-    let m = least(t.count, 16);
-    let mut i: usize = 0;
-    while i < m {
-        let q = t.rows[i];
-        if q.name == name {
-            return Found { at: i, task: q };
-        }
-        i += 1;
-    }
-    let none = unset_row(name);
-    Found { at: i, task: none }
+    t.live().iter().position(|v| v.name == name)
 }

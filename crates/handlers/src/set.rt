@@ -1,55 +1,48 @@
 // Handle, ignore, reset: a setting of a task is made.
-ghost use Rattle.std.specs.Prelude.{◌≡◌, true, max, ltb};
+ghost use Rattle.std.specs.Prelude.{◌≡◌, ◌≤◌, true, ltb};
 ghost use Rattle.model.specs.Handlers as model;
 ghost use Rattle.handlers.specs.Table.{tasks_of, sound_h};
-ghost use Rattle.handlers.specs.Set.{set_to, handle_in, ignore_in, reset_in, room, Done};
+ghost use Rattle.handlers.specs.Set.{set_in, set_to, handle_in, ignore_in, reset_in, room, Done};
 
-use crate::answers::{Handled, Outcome};
+use crate::answers::{Handled, Invalid};
 use crate::{Cell, Setting, Tasks, rows};
-use base::bytes::wide;
-use base::sets::least;
 
 // The last condition that has a setting.
 const LAST: u8 = 10;
 
-fn most(a: usize, b: usize) -> usize
-    ensures { result ≡ max a b }
+// In the task's row, or in a new one behind the others. Where it has none and 16 are in use nothing changes: this does not arise, since a row is an
+// active task's and at most 16 tasks are active, as each has a program of its own.
+fn put(mut t: Tasks, name: u64, condition: u8, setting: Setting) -> Tasks
+    requires { condition ≤ 10 }
+    ensures { result ≡ set_in t name condition setting }
 {
-    if a <= b { b } else { a }
+    let n = t.live().len();
+    let c = usize::from(condition);
+    let cell = Cell { setting };
+    if let Some(i) = rows::place(&t, name) {
+        t.rows[i].cells[c] = cell;
+    } else if n < 16 {
+        let mut v = rows::unset_row(name);
+        v.cells[c] = cell;
+        t.rows[n] = v;
+        t.count = n + 1;
+    }
+    t
 }
 
-// All three. A task that has no row gets one behind the others. Where it has none and 16 are in use nothing changes: this does not arise, since a
-// row is an active task's and at most 16 tasks are active, as each has a program of its own.
-fn set_to(mut t: Tasks, name: u64, condition: u8, setting: Setting) -> Handled
+// All three: "10 condition above 10".
+fn set_to(t: Tasks, name: u64, condition: u8, setting: Setting) -> Handled
     ensures { result ≡ set_to (ltb 10 condition) t name condition setting }
 {
     if condition > LAST {
         return Handled {
             tasks: t,
-            outcome: Outcome::Invalid,
+            outcome: Err(Invalid),
         };
     }
-    let m = least(t.count, 16);
-    let mut i: usize = 0;
-    while i < m {
-        if t.rows[i].name == name {
-            break;
-        }
-        i += 1;
-    }
-    if i < 16 {
-        let c = wide(condition);
-        let mut v = rows::unset_row(name);
-        if i < m {
-            v = t.rows[i];
-        }
-        v.cells[c] = Cell { setting };
-        t.rows[i] = v;
-        t.count = most(t.count, i + 1);
-    }
     Handled {
-        tasks: t,
-        outcome: Outcome::Done,
+        tasks: put(t, name, condition, setting),
+        outcome: Ok(()),
     }
 }
 
@@ -61,7 +54,7 @@ pub fn handle(t: Tasks, name: u64, condition: u8, label: u16) -> Handled
     if label == 0 {
         return Handled {
             tasks: t,
-            outcome: Outcome::Invalid,
+            outcome: Err(Invalid),
         };
     }
     set_to(t, name, condition, Setting::Label(label))

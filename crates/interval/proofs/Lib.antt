@@ -1,6 +1,6 @@
-pub mod Seeks
-pub mod Picks
-pub mod Gathers
+pub mod Counted
+pub mod Places
+pub mod Busy
 pub mod SoundLaws
 pub mod SoundLawsWhole
 pub mod Told

@@ -1,19 +1,26 @@
 -- The soundness check, part by part: names, the phase of a row, a row, and what a row has in a column. Assumes nothing.
-use Rattle.std.proofs.Common.{◌≡◌, ℕ, ◌+◌, ◌^◌, ◌<◌, Bool, true, false, not, ◌&&◌, ◌||◌, eqb, ltb, leb, List, length, get_or, take, refl, ap, ◌∙◌, add_comm, zero-add, arith, length-take-le, w8, Fits, lt-ltb, eq-eqb, ne_eqb, leb-true}
-use Rattle.base.specs.Lists.{all, once}
+use Rattle.std.proofs.Common.{◌≡◌, ℕ, suc, ◌+◌, ◌^◌, ◌<◌, ◌≤◌, Bool, true, false, not, ◌&&◌, ◌||◌, Option, Some, None, List, [], ◌∷◌, ◌++◌, map, length, get_or, take, drop, eqb, ltb, leb, sym, refl, ap, ◌∙◌, arith, add-one, add_comm, zero-add, append-nil, length-take-le, take-suc, w8, Fits, lt-ltb, ne_eqb, leb-true}
+use Rattle.std.proofs.Math.Seq.{take-length, split_at}
+use Rattle.std.specs.List.{list_any}
+use Rattle.base.specs.Lists.{keep, all, has, copies, once}
 use Rattle.base.specs.Bytes.{is_byte, is_bytes, blank, is_name}
-use Rattle.base.specs.Laws.Tests.{by_test, and_i, leb_add, ltb_add}
+use Rattle.base.specs.Laws.Tests.{by_test, is_false, and_i, eqb_same, leb_add, ltb_add}
 use Rattle.base.specs.Laws.Bytes.{is_bytes_take}
-use Rattle.base.specs.Laws.Keep.{all_by_get_d}
+use Rattle.base.specs.Laws.Keep.{keep_append, all_append, any_keep, all_by_get_d}
+use Rattle.base.specs.Laws.Counting.{copies_append, has_some, once_copies, once_snoc, has_map}
+use Rattle.base.specs.Laws.Maps.{map-append}
+use Rattle.base.specs.Laws.Scans.{once_miss}
+use Rattle.base.specs.Laws.Library.{any_of}
 use Rattle.model.specs.Limits.{cabinet, is_data}
 use Rattle.model.specs.Interval as model
 use Rattle.interval.specs.declared.Phase.{Phase}
 use Rattle.interval.specs.declared.Phase.TheVariants.{Waiting, Expired, Active}
 use Rattle.interval.specs.declared.Request.{Request}
+use Rattle.interval.specs.declared.sound.Column.{Column}
 use Rattle.interval.specs.Circle.{to_go}
 use Rattle.interval.specs.Stands.{phase_at}
-use Rattle.interval.specs.Rows.{active, data_of}
-use Rattle.interval.specs.Sound.{phase_fits, sound_row, key_of}
+use Rattle.interval.specs.Rows.{data_of, out_row}
+use Rattle.interval.specs.Sound.{phase_fits, sound_row, is_in, value_in, key_of, column}
 
 and_true : (a : Bool) → a ≡ (a && true)
 and_true true = refl
@@ -24,12 +31,21 @@ and_true false = refl
 pub name_hit : (x : ℕ) → x < 2 ^ 32 → (x ≡ blank 4 → ⊥) → is_name 4 x ≡ true
 name_hit x h n = and_i (lt-ltb x (256 ^ 4) h) (ap not (ne_eqb x (blank 4) n))
 
-module _ (l : List ℕ) (n most : ℕ) where
-  abbrev pub named : Bool
-  named = leb n most && once (take n l) && all (is_name 4) (take n l)
+module _ (known : List ℕ) (i : ℕ) (h : i < length known) where
+  abbrev name_here : ℕ
+  name_here = get_or known i 0
 
-  pub names_twice : once (take n l) ≡ false → false ≡ named
-  names_twice e = rw e (by_test (leb n most) (λ t. rw t) (λ t. rw t))
+  pub name_once : has name_here (take i known) ≡ false → once (take i known) ≡ true → once (take (i + 1) known) ≡ true
+  name_once n o = rw (add-one i, take-suc known i 0 h) (once_snoc name_here (take i known) n o)
+
+  pub name_named : is_name 4 name_here ≡ true → all (is_name 4) (take i known) ≡ true → all (is_name 4) (take (i + 1) known) ≡ true
+  name_named n o =
+      rw (add-one i, take-suc known i 0 h, all_append (is_name 4) (take i known) (name_here ∷ [])) (and_i o (and_i n refl))
+
+  pub name_twice : has name_here (take i known) ≡ true → (a b : Bool) → false ≡ (a && once known && b)
+  name_twice n a b =
+      let e : once known ≡ false = sym (ap once (take-length known)) ∙ once_miss known (length known) i h h n in
+      rw e (by_test a (λ t. rw t) (λ t. rw t))
 
 -- ---- the phase of a row
 
@@ -72,22 +88,55 @@ module _ (r : ℕ) (program terminal : Bool) (q : Request)
       (and_true (not (eqb q.name (blank 8)) && program && (eqb q.terminal (blank 4) || terminal)))))
       (λ e. rw e)
 
-  pub row_answer : (a b z : Bool) → z ≡ (leb q.len 64 && not (eqb q.name (blank 8)) && program && a && b)
-      → a ≡ (eqb q.terminal (blank 4) || terminal) → b ≡ phase_fits r q.len q.phase → z ≡ sound_row r program terminal q
-  row_answer a b z h ha hb = let e : z ≡ row = h ∙ rw (ha, hb) in e ∙ row_is
+  pub row_answer : (z : Bool) → z ≡ row → z ≡ sound_row r program terminal q
+  row_answer z h = h ∙ row_is
 
--- ---- what a row has in a column
+-- ---- what rows have in a column
 
-module _ (w : ℕ) (q : Request) where
-  pub key_name : w ≡ 0 → record { on = true; value = q.name } ≡ key_of w q
-  unfolding key_of
-  key_name e = rw (eq-eqb w 0 e)
+module _ (c : Column) (l : List Request) where
+  pub taken_is : (k : ℕ) → list_any (λ (q : Request). is_in c q && eqb (value_in c q) k) l ≡ has k (column c l)
+  taken_is k =
+      any_of (λ (q : Request). is_in c q && eqb (value_in c q) k) l
+      ∙ sym (has_map (value_in c) k (keep (is_in c) l) ∙ any_keep (λ (q : Request). eqb (value_in c q) k) (is_in c) l)
 
-  module _ (n0 : w ≡ 0 → ⊥) (a : Bool) (f : a ≡ active q) where
-    pub key_program : w ≡ 1 → record { on = a; value = q.program } ≡ key_of w q
-    unfolding key_of
-    key_program e = rw (ne_eqb w 0 n0, eq-eqb w 1 e, f)
+  module _ (i : ℕ) (h : i < length l) where
+    abbrev passed : List ℕ
+    passed = column c (take i l)
 
-    pub key_terminal : (w ≡ 1 → ⊥) → (b : Bool) → b ≡ (a && not (eqb q.terminal (blank 4))) → record { on = b; value = q.terminal } ≡ key_of w q
-    unfolding key_of
-    key_terminal n1 b g = rw (ne_eqb w 0 n0, ne_eqb w 1 n1, g, f)
+    abbrev row_here : Request
+    row_here = get_or l i out_row
+
+    column_more : column c (take (i + 1) l) ≡ passed ++ map (value_in c) (keep (is_in c) (row_here ∷ []))
+    column_more =
+        ap (λ (k : ℕ). column c (take k l)) (add-one i)
+        ∙ ap (column c) (take-suc l i out_row h)
+        ∙ ap (map (value_in c)) (keep_append (is_in c) (take i l) (row_here ∷ []))
+        ∙ map-append (value_in c) (keep (is_in c) (take i l)) (keep (is_in c) (row_here ∷ []))
+
+    pub nothing_here : None ≡ key_of c row_here → once passed ≡ true → once (column c (take (i + 1) l)) ≡ true
+    nothing_here e o =
+        by_test (is_in c row_here)
+        (λ t. let f : ◌≡◌ {A = Option ℕ} None (Some (value_in c row_here)) = rw t at e in absurd cc)
+        (λ t. rw (column_more, t, append-nil passed) o)
+
+    module _ (k : ℕ) (e : Some k ≡ key_of c row_here) where
+      key_here : (is_in c row_here ≡ true) × (value_in c row_here ≡ k)
+      key_here =
+          by_test (is_in c row_here)
+          (λ t. let f : Some k ≡ Some (value_in c row_here) = rw t at e in (t, cc))
+          (λ t. let f : ◌≡◌ {A = Option ℕ} (Some k) None = rw t at e in absurd cc)
+
+      pub key_new : has k passed ≡ false → once passed ≡ true → once (column c (take (i + 1) l)) ≡ true
+      key_new n o = rw (column_more, key_here.0, key_here.1) (once_snoc k passed n o)
+
+      -- it stands before and here
+      pub key_twice : has k passed ≡ true → once (column c l) ≡ false
+      key_twice n =
+          let rest : List Request = drop (suc i) l in
+          let cut : l ≡ take i l ++ (row_here ∷ rest) = split_at l i out_row h in
+          let is : column c l ≡ passed ++ (k ∷ column c rest) =
+          ap (column c) cut ∙ ap (map (value_in c)) (keep_append (is_in c) (take i l) (row_here ∷ rest))
+          ∙ map-append (value_in c) (keep (is_in c) (take i l)) (keep (is_in c) (row_here ∷ rest))
+          ∙ rw (key_here.0, key_here.1) in
+          let two : 2 ≤ copies k (column c l) = rw (is, copies_append k passed (k ∷ column c rest), eqb_same k) (omega (arith, has_some k passed n)) in
+          is_false (once (column c l)) (λ o. omega (arith, two, once_copies (column c l) o k))

@@ -1,11 +1,10 @@
 -- The paper mill's case, across the register's wrap: what is due in the last ticks before it is expired when looked at just after it,
 -- and what is due just after it is not expired before it. Assumes nothing.
-use Rattle.std.specs.Prelude.{◌≡◌, ℕ, List, [], ◌∷◌, map, replicate, refl}
+use Rattle.std.specs.Prelude.{◌≡◌, ℕ, List, [], ◌∷◌, map, replicate, refl, Ok, Err}
 use Rattle.interval.specs.declared.Phase.{Phase}
 use Rattle.interval.specs.declared.Phase.TheVariants.{Waiting, Expired}
 use Rattle.interval.specs.declared.Request.{Request}
 use Rattle.interval.specs.declared.Requests.{Requests}
-use Rattle.interval.specs.declared.advance.Passing.TheVariants.{Passed, Invalid}
 use Rattle.interval.specs.Circle.{after, to_go}
 use Rattle.interval.specs.Table.{live}
 use Rattle.interval.specs.Advance.{advance_of}
@@ -50,7 +49,7 @@ across_register : (advance_of mill 8).requests.register ≡ 2
 unfolding advance_of after to_go
 across_register = refl
 
-across_number : (advance_of mill 8).outcome ≡ Passed 2
+across_number : (advance_of mill 8).outcome ≡ Ok 2
 unfolding advance_of after to_go
 across_number = refl
 
@@ -65,6 +64,6 @@ long_after : look (advance_of (advance_of (advance_of mill 10).requests 1_000_00
 unfolding advance_of after to_go
 long_after = refl
 
-too_far : (advance_of mill 1_000_000_001).outcome ≡ Invalid
+too_far : (advance_of mill 1_000_000_001).outcome ≡ Err (record {})
 unfolding advance_of after to_go
 too_far = refl

@@ -1,5 +1,6 @@
 pub mod Circle
 pub mod Table
+pub mod Answers
 pub mod Stands
 pub mod Rows
 pub mod Remove

@@ -1,5 +1,5 @@
 -- Retrieve.
-use Rattle.std.specs.Prelude.{ℕ, min, Bool, true, ◌&&◌, length, replicate, ◌==◌, nat_lt, slice_index_or}
+use Rattle.std.specs.Prelude.{ℕ, min, Bool, true, ◌&&◌, List, [], length, take, ◌==◌, nat_lt, slice_index_or, Option, Some, None}
 use Rattle.base.specs.Choice.{pick}
 use Rattle.base.specs.Lists.{any, first, first_at, cut_at}
 use Rattle.model.specs.Limits.{some}
@@ -7,16 +7,23 @@ use Rattle.model.specs.Plans.{normal, wrong_length, end_of_data}
 use Rattle.interval.specs.declared.Phase.TheVariants.{Active}
 use Rattle.interval.specs.declared.Request.{Request}
 use Rattle.interval.specs.declared.Requests.{Requests}
-use Rattle.interval.specs.declared.answers.Retrieve.{Retrieve}
-use Rattle.interval.specs.declared.answers.Retrieve.TheVariants.{Given, Cut, EndOfData}
-use Rattle.interval.specs.declared.answers.Retrieved.{Retrieved}
+use Rattle.interval.specs.declared.answers.Data.{Data}
+use Rattle.interval.specs.Answers.{Retrieved}
 use Rattle.interval.specs.Table.{live, with_live, in_phase}
 use Rattle.interval.specs.Rows.{expired, not_taken, named, data_of, no_row, out_row, with_row}
 
-abbrev pub retrieve_gives : Retrieve → ℕ
-retrieve_gives Given = normal
-retrieve_gives Cut = wrong_length
-retrieve_gives EndOfData = end_of_data
+-- cut where there is not room for all
+abbrev pub retrieve_gives : Option Data → ℕ
+retrieve_gives (Some d) = pick (nat_lt d.len d.full) wrong_length normal
+retrieve_gives None = end_of_data
+
+abbrev pub retrieve_number : Option Data → ℕ
+retrieve_number (Some d) = d.full
+retrieve_number None = 0
+
+abbrev pub retrieve_bytes : Option Data → List ℕ
+retrieve_bytes (Some d) = take d.len d.bytes
+retrieve_bytes None = []
 
 abbrev pub has_own : Request → Bool
 has_own q = not_taken q.phase && some (data_of q)
@@ -24,21 +31,18 @@ has_own q = not_taken q.phase && some (data_of q)
 abbrev pub serves : ℕ → ℕ → Request → Bool
 serves p m q = expired q && q.program == p && q.terminal == m && some (data_of q)
 
-abbrev pub cut_of : ℕ → ℕ → Retrieve
-cut_of full room = pick (nat_lt room full) Cut Given
-
 -- a request's data, as far as there is room
+abbrev pub given : Request → ℕ → Data
+given q room = record { full = length (data_of q); len = min (length (data_of q)) room; bytes = q.bytes }
+
+abbrev pub retrieved : Requests → Option Data → Retrieved
+retrieved t o = record { requests = t; outcome = o }
+
 abbrev pub handed : Requests → Request → ℕ → Retrieved
-handed t q room = record {
-  requests = t;
-  outcome = cut_of (length (data_of q)) room;
-  full = length (data_of q);
-  len = min (length (data_of q)) room;
-  bytes = q.bytes;
-}
+handed t q room = retrieved t (Some (given q room))
 
 abbrev pub nothing : Requests → Retrieved
-nothing t = record { requests = t; outcome = EndOfData; full = 0; len = 0; bytes = replicate 64 0 }
+nothing t = retrieved t None
 
 -- the task's request q stands at i, and j is the first that serves it
 abbrev pub retrieval : Requests → ℕ → Request → ℕ → ℕ → Retrieved

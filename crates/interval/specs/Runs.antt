@@ -1,24 +1,20 @@
 -- The operations one after the other, any number of them: what each comes to by its exact definition, and what it comes to in the model.
 -- Laws/Runs.antt shows that these are the same. Assumes nothing.
-use Rattle.std.specs.Prelude.{ℕ, ◌+◌, ◌%◌, ◌^◌, Bool, true, false, ◌&&◌, List, [], ◌∷◌, take, nat_lt}
+use Rattle.std.specs.Prelude.{ℕ, ◌+◌, ◌%◌, ◌^◌, Bool, true, false, ◌&&◌, List, [], ◌∷◌, nat_lt}
 use Rattle.base.specs.Choice.{pick}
 use Rattle.base.specs.Bytes.{is_bytes}
 use Rattle.model.specs.Limits.{cabinet}
 use Rattle.model.specs.Plans.{Outcome, Plan, first_of, obey, done}
 use Rattle.model.specs.Interval as model
 use Rattle.interval.specs.declared.Requests.{Requests}
-use Rattle.interval.specs.declared.advance.Advanced.{Advanced}
-use Rattle.interval.specs.declared.answers.Defined.{Defined}
-use Rattle.interval.specs.declared.answers.Started.{Started}
-use Rattle.interval.specs.declared.answers.Cancelled.{Cancelled}
 use Rattle.interval.specs.declared.answers.Dispatched.{Dispatched}
-use Rattle.interval.specs.declared.answers.Retrieved.{Retrieved}
+use Rattle.interval.specs.Answers.{Advanced, Defined, Started, Cancelled, Retrieved}
 use Rattle.interval.specs.Advance.{advance_of, condition_of, number_of}
 use Rattle.interval.specs.Cancel.{cancel_in, cancel_gives}
 use Rattle.interval.specs.Define.{define_program, define_terminal, define_gives}
-use Rattle.interval.specs.Dispatch.{dispatch_in, dispatch_gives, dispatch_number, dispatch_bytes}
+use Rattle.interval.specs.Dispatch.{dispatch_in, dispatch_gives, dispatch_bytes}
 use Rattle.interval.specs.Remove.{remove_in}
-use Rattle.interval.specs.Retrieve.{retrieve_in, retrieve_gives}
+use Rattle.interval.specs.Retrieve.{retrieve_in, retrieve_gives, retrieve_number, retrieve_bytes}
 use Rattle.interval.specs.Start.{start_in, start_gives}
 
 -- what can be asked of interval control
@@ -58,7 +54,7 @@ abbrev pub advanced_of : Advanced → Outcome Requests
 advanced_of r = record { condition = condition_of r.outcome; number = number_of r.outcome; bytes = []; state = r.requests }
 
 abbrev pub dispatched_of : Dispatched → Outcome Requests
-dispatched_of r = record { condition = dispatch_gives r.outcome; number = dispatch_number r.outcome; bytes = dispatch_bytes r.outcome; state = r.requests }
+dispatched_of r = record { condition = dispatch_gives r.started; number = r.passed; bytes = dispatch_bytes r.started; state = r.requests }
 
 abbrev pub started_of : Started → Outcome Requests
 started_of r = record { condition = start_gives r.outcome; number = 0; bytes = []; state = r.requests }
@@ -67,7 +63,7 @@ abbrev pub cancelled_of : Cancelled → Outcome Requests
 cancelled_of r = record { condition = cancel_gives r.outcome; number = 0; bytes = []; state = r.requests }
 
 abbrev pub retrieved_of : Retrieved → Outcome Requests
-retrieved_of r = record { condition = retrieve_gives r.outcome; number = r.full; bytes = take r.len r.bytes; state = r.requests }
+retrieved_of r = record { condition = retrieve_gives r.outcome; number = retrieve_number r.outcome; bytes = retrieve_bytes r.outcome; state = r.requests }
 
 abbrev pub turn : Requests → Ask → Outcome Requests
 turn t (Program n) = defined_of (define_program t n)

@@ -43,3 +43,8 @@ pub record Done (c c' : ℕ) (t t' : Requests) (p : Plan model.Interval) (condit
   pub outcome : ◌≡◌ {A = Outcome model.Interval} (record { condition = condition; number = number; bytes = bytes; state = interval_at c' t' }) (obey (interval_at c t) (first_of p.checks) p.effect)
   pub means : Means t' c'
   pub soundly : sound_r t' ≡ true
+
+-- the same at every clock that the register can mean, of an operation that takes no time
+abbrev pub Does : Requests → Requests → (model.Interval → Plan model.Interval) → ℕ → ℕ → List ℕ → Type 0
+Does t t' plan condition number bytes =
+    (c : ℕ) → Means t c → sound_r t ≡ true → Done c c t t' (plan (interval_at c t)) condition number bytes

@@ -1,66 +1,55 @@
 // Define program, define terminal.
-ghost use Rattle.std.specs.Prelude.{◌≡◌, ℕ, true, [], length, take};
+ghost use Rattle.std.specs.Prelude.{◌≡◌, [], length, take, is_ok};
+ghost use Rattle.base.specs.Choice.{pick};
+ghost use Rattle.base.specs.Lists.{over};
 ghost use Rattle.model.specs.Limits.{cabinet};
 ghost use Rattle.model.specs.Interval as model;
-ghost use Rattle.interval.specs.Stands.{Means, sound_r, interval_at, Done};
-ghost use Rattle.interval.specs.Define.{is_done, ruling, define_program, define_terminal, define_gives};
+ghost use Rattle.interval.specs.Stands.{Does};
+ghost use Rattle.interval.specs.Define.{ruling, behind, define_program, define_terminal, define_gives};
 
-use crate::answers::{Define, Defined};
-use crate::{Requests, rows};
+use crate::Requests;
+use crate::answers::{DefineError, Defined};
+use base::names::NONE;
+use base::sets::has;
 
-// What a new name comes to, behind the first `count`.
-fn rule(names: &[u32], count: usize, name: u32) -> Define
-    ensures { result ≡ ruling (length names.now) (take count names.now) name }
+// A new name comes behind the first `count`, where it can.
+fn enter(names: &mut [u32], count: &mut usize, name: u32) -> Result<(), DefineError>
+    ensures outcome { result ≡ ruling (length names.old) (take count.old names.old) name }
+    ensures names { names.new ≡ pick (is_ok result) (over (behind count.old names.old name) names.old) names.old }
+    ensures count { count.new ≡ pick (is_ok result) (length (behind count.old names.old name)) count.old }
 {
-    if name == rows::NONE {
-        return Define::Invalid;
+    if name == NONE {
+        return Err(DefineError::Invalid);
     }
-    if rows::known(names, count, name) {
-        return Define::NotUnique;
+    if has(names, *count, &name) {
+        return Err(DefineError::NotUnique);
     }
-    if count >= names.len() {
-        return Define::NoSpace;
+    if *count >= names.len() {
+        return Err(DefineError::NoSpace);
     }
-    Define::Done
-}
-
-fn is_done(o: Define) -> bool
-    ensures { result ≡ is_done o }
-{
-    match o {
-        Define::Done => true,
-        Define::Invalid => false,
-        Define::NotUnique => false,
-        Define::NoSpace => false,
-    }
+    names[*count] = name;
+    *count += 1;
+    Ok(())
 }
 
 pub fn define_program(mut t: Requests, name: u32) -> Defined
     ensures exact { result ≡ define_program t name }
-    ensures model { (c : ℕ) → Means t c → sound_r t ≡ true → Done c c t result.requests (model.define_program cabinet (interval_at c t) name) (define_gives result.outcome) 0 [] }
+    ensures model { Does t result.requests (λ i. model.define_program cabinet i name) (define_gives result.outcome) 0 [] }
 {
-    let o = rule(&t.programs, t.pcount, name);
-    if is_done(o) {
-        t.programs[t.pcount] = name;
-        t.pcount += 1;
-    }
+    let outcome = enter(&mut t.programs, &mut t.pcount, name);
     Defined {
         requests: t,
-        outcome: o,
+        outcome,
     }
 }
 
 pub fn define_terminal(mut t: Requests, name: u32) -> Defined
     ensures exact { result ≡ define_terminal t name }
-    ensures model { (c : ℕ) → Means t c → sound_r t ≡ true → Done c c t result.requests (model.define_terminal cabinet (interval_at c t) name) (define_gives result.outcome) 0 [] }
+    ensures model { Does t result.requests (λ i. model.define_terminal cabinet i name) (define_gives result.outcome) 0 [] }
 {
-    let o = rule(&t.terminals, t.tcount, name);
-    if is_done(o) {
-        t.terminals[t.tcount] = name;
-        t.tcount += 1;
-    }
+    let outcome = enter(&mut t.terminals, &mut t.tcount, name);
     Defined {
         requests: t,
-        outcome: o,
+        outcome,
     }
 }

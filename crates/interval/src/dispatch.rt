@@ -1,98 +1,74 @@
 // Dispatch.
-ghost use Rattle.std.specs.Prelude.{◌≡◌, ℕ, true, take};
-ghost use Rattle.base.specs.Lists.{keep};
+ghost use Rattle.std.specs.Prelude.{◌≡◌, ◌≤◌, length, position, count_by};
+ghost use Rattle.std.specs.List.{list_any};
 ghost use Rattle.model.specs.Interval as model;
-ghost use Rattle.interval.specs.Table.{live};
-ghost use Rattle.interval.specs.Rows.{active};
-ghost use Rattle.interval.specs.Stands.{Means, sound_r, interval_at, Done};
-ghost use Rattle.interval.specs.Dispatch.{Runs, free_of, dispatch_in, dispatch_gives, dispatch_number, dispatch_bytes};
+ghost use Rattle.interval.specs.Rows.{expired};
+ghost use Rattle.interval.specs.Stands.{Does};
+ghost use Rattle.interval.specs.Dispatch.{blocks, ready, dispatch_in, dispatch_gives, dispatch_bytes};
 
-use crate::answers::{Dispatch, Dispatched};
-use crate::{Phase, Requests, rows};
-use base::sets::least;
+use crate::answers::{Dispatched, Task};
+use crate::{Phase, Request, Requests};
+use base::names::NONE;
 
-// The programs and the terminals of the n active tasks.
-#[derive(Clone, Copy)]
-struct Busy {
-    programs: [u32; 32],
-    terminals: [u32; 32],
-    n: usize,
+// Whether it is an active task that holds the program or the terminal.
+fn blocks(q: &Request, program: u32, terminal: u32) -> bool
+    ensures { result ≡ blocks program terminal q.now }
+{
+    q.phase.is_active() && (q.program == program || (terminal != NONE && q.terminal == terminal))
 }
 
-fn busy_in(t: Requests) -> Busy
-    ensures { Runs (keep active (live t)) result }
+// Whether one of the active tasks does.
+fn clashes(rows: &[Request], program: u32, terminal: u32) -> bool
+    ensures { result ≡ list_any (blocks program terminal) rows.now }
 {
-    let m = least(t.count, 32);
-    let mut b = Busy {
-        programs: [0u32; 32],
-        terminals: [0u32; 32],
-        n: 0,
-    };
-    let mut i: usize = 0;
-    while i < m {
-        let q = t.rows[i];
-        let p = q.phase;
-        if rows::active(p) {
-            let n = b.n;
-            b.programs[n] = q.program;
-            b.terminals[n] = q.terminal;
-            b.n = n + 1;
-        }
-        i += 1;
-    }
-    b
+    rows.iter().any(|q| blocks(q, program, terminal))
 }
 
-// "whose terminal is none or not held by an active task, and whose program has no active task"
-fn free<'a>(
-    programs: &'a [u32],
-    terminals: &'a [u32],
-    n: usize,
-    program: u32,
-    terminal: u32,
-) -> bool
-    ensures { result ≡ free_of (take n programs.now) (take n terminals.now) program terminal }
+// In the line, "whose terminal is none or not held by an active task, and whose program has no active task".
+#[tactic(auto, using(crate::proofs::Busy::free_is))]
+fn is_ready(rows: &[Request], q: &Request) -> bool
+    ensures { result ≡ ready rows.now q.now }
 {
-    if rows::known(programs, n, program) {
-        return false;
-    }
-    if terminal == rows::NONE {
-        return true;
-    }
-    !rows::known(terminals, n, terminal)
+    q.phase.is_expired() && !clashes(rows, q.program, q.terminal)
+}
+
+fn first_ready(rows: &[Request]) -> Option<usize>
+    ensures { result ≡ position (ready rows.now) rows.now }
+{
+    rows.iter().position(|q| is_ready(rows, q))
+}
+
+// How many of them are in the line.
+fn line(rows: &[Request]) -> u32
+    requires { length rows.now ≤ 32 }
+    ensures { result ≡ count_by expired rows.now }
+{
+    rows.iter().filter(|q| q.phase.is_expired()).count() as u32
 }
 
 // "Dispatch takes the first in the line" that can start.
 pub fn dispatch(mut t: Requests) -> Dispatched
     ensures exact { result ≡ dispatch_in t }
-    ensures model { (c : ℕ) → Means t c → sound_r t ≡ true → Done c c t result.requests (model.dispatch (interval_at c t)) (dispatch_gives result.outcome) (dispatch_number result.outcome) (dispatch_bytes result.outcome) }
+    ensures model { Does t result.requests model.dispatch (dispatch_gives result.started) result.passed (dispatch_bytes result.started) }
 {
-    let b = busy_in(t);
-    let m = least(t.count, 32);
-    let mut passed: u32 = 0;
-    let mut i: usize = 0;
-    while i < m {
-        let q = t.rows[i];
-        let p = q.phase;
-        if rows::expired(p) {
-            if free(&b.programs, &b.terminals, b.n, q.program, q.terminal) {
-                t.rows[i] = rows::in_phase(q, Phase::Active(false));
-                return Dispatched {
-                    requests: t,
-                    outcome: Dispatch::Started {
-                        name: q.name,
-                        program: q.program,
-                        terminal: q.terminal,
-                        passed,
-                    },
-                };
-            }
-            passed += 1;
-        }
-        i += 1;
-    }
+    let rows = t.live();
+    let Some(i) = first_ready(rows) else {
+        return Dispatched {
+            requests: t,
+            passed: line(rows),
+            started: None,
+        };
+    };
+    let passed = line(&rows[..i]);
+    let q = rows[i];
+    t.rows[i] = q.in_phase(Phase::Active(false));
     Dispatched {
         requests: t,
-        outcome: Dispatch::Nothing(passed),
+        passed,
+        started: Some(Task {
+            name: q.name,
+            program: q.program,
+            terminal: q.terminal,
+        }),
     }
 }

@@ -1,4 +1,6 @@
 // Interval control: programs, terminals, the tick register, and the requests in their phases.
+// The older form of request_rows, request_ops, advance, names and request_sound, which takes and gives its table by value; it goes when the
+// tables in place take over (docs/DECISIONS.md).
 #![tactic(auto)]
 
 // "Each request is in one phase: waiting with its due tick, expired, or active (data taken or not)."
@@ -21,7 +23,7 @@ pub struct Request {
 }
 
 // Rows 0..count are the requests: of those that wait the order is the order of acceptance, and of the expired it is the line.
-// Places past a count keep what they held and mean nothing.
+// Places past a count keep what they held and mean nothing. The arrays with a count beside are the tables' layout, of which every value gets a reply.
 #[derive(Clone, Copy)]
 pub struct Requests {
     pub register: u32,

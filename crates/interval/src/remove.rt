@@ -4,27 +4,14 @@ ghost use Rattle.interval.specs.Stands.{Means, sound_r};
 ghost use Rattle.interval.specs.Remove.{remove_in, Removed};
 
 use crate::Requests;
-use base::sets::least;
 
 // The first request of that name goes, and those behind it move down; where there is none, nothing does.
 pub fn remove(mut t: Requests, name: u64) -> Requests
     ensures exact { result ≡ remove_in t name }
     ensures model { (c : ℕ) → Means t c → sound_r t ≡ true → Removed c t name result }
 {
-    let m = least(t.count, 32);
-    let mut found = false;
-    let mut i: usize = 0;
-    while i < m {
-        if found {
-            let v = t.rows[i];
-            t.rows[i - 1] = v;
-        } else {
-            found = t.rows[i].name == name;
-        }
-        i += 1;
-    }
-    if found {
-        t.count = m - 1;
+    if let Some(i) = t.place(name) {
+        t.close(i);
     }
     t
 }

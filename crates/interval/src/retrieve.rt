@@ -1,99 +1,79 @@
 // Retrieve.
-ghost use Rattle.std.specs.Prelude.{◌≡◌, ℕ, true, take};
-ghost use Rattle.base.specs.Lists.{first_at};
+ghost use Rattle.std.specs.Prelude.{◌≡◌, ◌≤◌, position, IfSome};
 ghost use Rattle.model.specs.Interval as model;
 ghost use Rattle.interval.specs.Table.{live};
-ghost use Rattle.interval.specs.Stands.{Means, sound_r, interval_at, Done};
-ghost use Rattle.interval.specs.Retrieve.{has_own, serves, cut_of, retrieve_in, retrieve_gives};
+ghost use Rattle.interval.specs.Stands.{Does};
+ghost use Rattle.interval.specs.Retrieve.{has_own, serves, given, retrieved, retrieve_in, retrieve_gives, retrieve_number, retrieve_bytes};
 
-use crate::answers::{Retrieve, Retrieved};
-use crate::{Phase, Request, Requests, fresh, rows};
-use base::sets::least;
+use crate::answers::{Data, Retrieved};
+use crate::{Phase, Request, Requests, fresh};
 
 // "the task's own data if it has some not yet taken"
-fn has_own(q: Request) -> bool
-    ensures { result ≡ has_own q }
+fn has_own(q: &Request) -> bool
+    ensures { result ≡ has_own q.now }
 {
-    let p = q.phase;
-    if rows::untaken(p) {
-        return rows::size(q) >= 1;
-    }
-    false
+    q.phase.is_untaken() && q.size() >= 1
 }
 
 // "with the same program, the same terminal (none equals none) and some data", in the line
-fn serve(q: Request, program: u32, terminal: u32) -> bool
-    ensures { result ≡ serves program terminal q }
+fn serves(q: &Request, program: u32, terminal: u32) -> bool
+    ensures { result ≡ serves program terminal q.now }
 {
-    let p = q.phase;
-    if rows::expired(p) {
-        if q.program == program {
-            if q.terminal == terminal {
-                return rows::size(q) >= 1;
+    q.phase.is_expired() && q.program == program && q.terminal == terminal && q.size() >= 1
+}
+
+// A request's data, as far as there is room.
+fn given(q: &Request, room: usize) -> Data
+    ensures exact { result ≡ given q.now room }
+    ensures small { (result.full ≤ 64) × (result.len ≤ 64) }
+{
+    let full = q.size();
+    let bytes = q.bytes;
+    Data {
+        full,
+        len: full.min(room),
+        bytes,
+    }
+}
+
+impl Requests {
+    fn server(&self, program: u32, terminal: u32) -> Option<usize>
+        ensures { result ≡ position (serves program terminal) (live self.now) }
+    {
+        self.live()
+            .iter()
+            .position(|q| serves(q, program, terminal))
+    }
+
+    fn retrieve(&mut self, task: u64, room: usize) -> Option<Data>
+        ensures exact { retrieved self.new result ≡ retrieve_in self.old task room }
+        ensures small { IfSome result (λ d. (d.full ≤ 64) × (d.len ≤ 64)) }
+    {
+        // A missing task is a row of zeros, as `task_of` reads it: retrieve answers for every name.
+        let mut q = fresh::no_row();
+        if let Some(i) = self.place(task) {
+            q = self.rows[i];
+            if has_own(&q) {
+                self.rows[i] = q.in_phase(Phase::Active(true));
+                return Some(given(&q, room));
             }
         }
+        let j = self.server(q.program, q.terminal)?;
+        q = self.rows[j];
+        self.close(j);
+        Some(given(&q, room))
     }
-    false
-}
-
-fn server(t: Requests, program: u32, terminal: u32) -> usize
-    ensures { result ≡ first_at (serves program terminal) (live t) }
-{
-    let m = least(t.count, 32);
-    let mut i: usize = 0;
-    while i < m {
-        let q = t.rows[i];
-        if serve(q, program, terminal) {
-            return i;
-        }
-        i += 1;
-    }
-    i
-}
-
-fn cut(full: usize, room: usize) -> Retrieve
-    ensures { result ≡ cut_of full room }
-{
-    if room < full {
-        return Retrieve::Cut;
-    }
-    Retrieve::Given
 }
 
 // "Retrieve gives the task's own data if it has some not yet taken. Otherwise the first in the line .. ; that request is removed."
 pub fn retrieve(mut t: Requests, task: u64, room: usize) -> Retrieved
     ensures exact { result ≡ retrieve_in t task room }
-    ensures model { (c : ℕ) → Means t c → sound_r t ≡ true → Done c c t result.requests (model.retrieve (interval_at c t) task room) (retrieve_gives result.outcome) result.full (take result.len result.bytes) }
+    ensures model { Does t result.requests (λ i. model.retrieve i task room) (retrieve_gives result.outcome) (retrieve_number result.outcome) (retrieve_bytes result.outcome) }
+    ensures small { IfSome result.outcome (λ d. (d.full ≤ 64) × (d.len ≤ 64)) }
 {
-    let i = rows::place(t, task);
-    let m = least(t.count, 32);
-    let mut q = fresh::no_row();
-    if i < m {
-        q = t.rows[i];
-    }
-    if has_own(q) {
-        t.rows[i] = rows::in_phase(q, Phase::Active(true));
-    } else {
-        let j = server(t, q.program, q.terminal);
-        if m <= j {
-            return Retrieved {
-                requests: t,
-                outcome: Retrieve::EndOfData,
-                full: 0,
-                len: 0,
-                bytes: [0u8; 64],
-            };
-        }
-        q = t.rows[j];
-        t = rows::close(t, j);
-    }
-    let full = rows::size(q);
-    let b = q.bytes;
+    let outcome = t.retrieve(task, room);
     Retrieved {
         requests: t,
-        outcome: cut(full, room),
-        full,
-        len: least(full, room),
-        bytes: b,
+        outcome,
     }
 }

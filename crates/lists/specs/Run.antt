@@ -1,5 +1,5 @@
 -- The run of a framed list over the monitor's tables, into a lent buffer (document 01, "The list and the answers").
-use Rattle.std.specs.Prelude.{ℕ, ◌*◌, ◌≤◌, List, [], ◌∷◌, length, leb}
+use Rattle.std.specs.Prelude.{ℕ, ◌*◌, ◌≤◌, List, [], ◌∷◌, length, leb, Result, Ok, Err}
 use Rattle.base.specs.Choice.{pick}
 use Rattle.model.specs.Commands.{Answer}
 use Rattle.model.specs.Lists as model
@@ -7,7 +7,8 @@ use Rattle.monitor.specs.Step.{step_on}
 use Rattle.monitor.specs.Table.{fresh_tables}
 use Rattle.monitor.specs.declared.Tables.{Tables}
 use Rattle.frames.specs.Reading.{records_from, Filled}
-use Rattle.lists.specs.declared.run.Ran.{Ran}
+use Rattle.frames.specs.Refused.{code_of}
+use Rattle.frames.specs.declared.refused.Refused.{Refused}
 
 -- the answers of the monitor, from tables, one after the other
 unfoldable pub answers_on : Tables → List (List ℕ) → List Answer
@@ -23,8 +24,9 @@ run_on (model.good v rs) b = pick (leb (74 * length rs) (length b)) (model.answe
 abbrev pub reply : ℕ → ℕ → List ℕ → model.Ran
 reply c w b = record { code = c; written = w; buffer = b }
 
-abbrev pub ran : Ran → List ℕ → model.Ran
-ran r b = reply r.code r.written b
+abbrev pub ran : Result ℕ Refused → List ℕ → model.Ran
+ran (Ok n) b = reply 0 n b
+ran (Err r) b = model.refusal (code_of r) b
 
 -- records fill the list behind the header, and the buffer has 74 bytes for each
 pub record Fitting (l b : List ℕ) : Type 0 where

@@ -1,7 +1,9 @@
 // "A list runs from fresh, empty tables whose register holds the start value. It is framed whole before anything runs."
-ghost use Rattle.std.specs.Prelude.{◌≡◌, List, ℕ};
-ghost use Rattle.model.specs.Lists.{framed, refusal, answered, encoded, run};
+ghost use Rattle.std.specs.Prelude.{◌≡◌, ◌||◌, eqb};
+ghost use Rattle.base.specs.Bytes.{blank};
+ghost use Rattle.model.specs.Lists.{framed, answered, encoded, run};
 ghost use Rattle.model.specs.Limits.{cabinet};
+ghost use Rattle.interval.specs.Active.{active_in};
 ghost use Rattle.monitor.specs.Table.{fresh_tables};
 ghost use Rattle.frames.specs.Reading.{records_from};
 ghost use Rattle.frames.specs.Writing.{written, written_over};
@@ -9,47 +11,31 @@ ghost use Rattle.lists.specs.Run.{answers_on, run_on, ran, Fitting, reply};
 ghost use Rattle.lists.specs.Laws.Answers.{held};
 
 use crate::fresh::{fresh_requests, fresh_tasks};
-use base::sets::least;
-use frames::framing::{Framing, frame};
+use base::names::BLANK;
+use frames::framing::{Framed, frame};
 use frames::reading::{Part, part_at};
+use frames::refused::Refused;
 use frames::writing::write_answer;
 use handlers::Setting;
 use handlers::decide::decide;
 use handlers::forget::forget;
-use interval::active::is_task;
+use interval::Requests;
 use interval::remove::remove;
 use monitor::answers::{Answer, answered, plain};
 use monitor::lanes::{decides, for_requests, for_settings, for_store, judge, lane_of, word_of};
-use monitor::settle::SYSTEM;
 
-// "The list entry returns 0, 35 or 36 and the number of bytes written."
-#[derive(Clone, Copy)]
-pub struct Ran {
-    pub code: u32,
-    pub written: usize,
-}
-
-pub fn run(list: &[u8], out: &mut [u8]) -> Ran
+// "The list entry returns 0, 35 or 36 and the number of bytes written." "A refused list runs nothing and writes nothing."
+pub fn run(list: &[u8], out: &mut [u8]) -> Result<usize, Refused>
     ensures exact { ran result out.new ≡ run_on (framed list.now) out.old }
     ensures model { ran result out.new ≡ run cabinet list.now out.old }
 {
-    match frame(list) {
-        Framing::Refused => refused(35),
-        Framing::Framed { records, start } => {
-            if out.len() / 74 < records {
-                return refused(36);
-            }
-            let written = run_records(list, out, start);
-            Ran { code: 0, written }
-        }
+    let Some(Framed { records, start }) = frame(list) else {
+        return Err(Refused::NotFramed);
+    };
+    if out.len() / 74 < records {
+        return Err(Refused::NoRoom);
     }
-}
-
-// "A refused list runs nothing and writes nothing."
-fn refused(code: u32) -> Ran
-    ensures { (b : List ℕ) → ran result b ≡ refusal code b }
-{
-    Ran { code, written: 0 }
+    Ok(run_records(list, out, start))
 }
 
 // An answer at the front of a buffer: how many bytes it took.
@@ -60,11 +46,18 @@ fn write(out: &mut [u8], a: Answer) -> usize
     write_answer(out, a.condition, a.action, a.label, a.number, &bytes, a.len)
 }
 
+// "34 issuer neither blank nor an active task": who may send a record. The requests are lent, so that none is copied.
+fn may_send(requests: &Requests, issuer: u64) -> bool
+    ensures { result ≡ (eqb issuer (blank 8) || active_in requests.now issuer) }
+{
+    issuer == BLANK || requests.has_task(issuer)
+}
+
 // The records of a framed list, where the buffer has 74 bytes for each: how many bytes their answers took.
 // "Each answer goes into the lent buffer behind the one before it."
 //
-// A call copies each struct that it takes and gives. So the parts are locals of this function, which looks for the issuer itself and calls each
-// command from an arm of its own: a function between would copy a part once or twice more for every record (docs/SPEED.md).
+// A call copies each struct that it takes and gives. So the parts are locals of this function, which calls each command from an arm of its own:
+// a function between would copy a part once or twice more for every record, and `bench/run` then misses its bar (docs/SPEED.md).
 fn run_records(list: &[u8], out: &mut [u8], register: u32) -> usize
     requires { Fitting list.now out.old }
     ensures { reply 0 result out.new ≡ answered (answers_on (fresh_tables register) (records_from list.now 9)) out.old }
@@ -78,23 +71,10 @@ fn run_records(list: &[u8], out: &mut [u8], register: u32) -> usize
     while let Part::Record { start, next } = part_at(list, at) {
         let rec = &list[start..next];
 
-        // who sends it: the system, or an active task
         let issuer = records::issuer(rec);
-        let mut may = true;
-        if issuer != SYSTEM {
-            let m = least(requests.count, 32);
-            let mut i: usize = 0;
-            while i < m {
-                let q = requests.rows[i];
-                if is_task(q, issuer) {
-                    break;
-                }
-                i += 1;
-            }
-            may = i < m;
-        }
+        let may = may_send(&requests, issuer);
 
-        // the part that it is for
+        // the part that it is for: three tests in turn, since one match of lanes has 18 ways into one join, whose proof the step limit cut off (docs/SPEED.md)
         let lane = lane_of(rec, issuer, may);
         let command = records::command(rec);
         let mut said = word_of(lane);
@@ -187,9 +167,9 @@ fn run_records(list: &[u8], out: &mut [u8], register: u32) -> usize
         }
 
         // the answer
-        let a = answered(said, v.action, v.label);
+        let a = answered(said, u8::from(v.action), v.action.label());
         let n = write(&mut out[written..], a);
-        written = written + n;
+        written += n;
         at = next;
     }
     written

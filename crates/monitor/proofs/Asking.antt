@@ -5,7 +5,7 @@ use mathlib.Core.Path.{◌≡◌, ap, ◌∙◌}
 use mathlib.Core.List.{List, []}
 use Rattle.model.specs.Plans.{Outcome}
 use Rattle.interval.specs.declared.Requests.{Requests}
-use Rattle.interval.specs.declared.answers.Defined.{Defined}
+use Rattle.interval.specs.Answers.{Defined}
 use Rattle.interval.specs.Define.{define_gives}
 use Rattle.interval.specs.Start.{asked}
 use Rattle.monitor.specs.declared.answers.Said.{Said}

@@ -1,6 +1,6 @@
 -- What `step_on` and `step` give in each of their branches is what `step_on` and `step_in` say. Assumes nothing.
 use Prim.Native.Nat.{ℕ}
-use mathlib.Core.Path.{◌≡◌, refl, sym, ap, ap₂, ◌∙◌}
+use mathlib.Core.Path.{◌≡◌, refl, ap, ◌∙◌}
 use mathlib.Core.Bool.{Bool, true, false, ◌||◌}
 use mathlib.Core.List.{List, []}
 use lib.Dec.{eqb}
@@ -21,7 +21,7 @@ use Rattle.monitor.specs.declared.settle.Turned.{Turned}
 use Rattle.monitor.specs.declared.step.Stepped as declared
 use Rattle.monitor.specs.Answers.{saying, said, answering}
 use Rattle.monitor.specs.Table.{sound_p}
-use Rattle.monitor.specs.Step.{Lent, lent, obeys, turned, whole, decided_in, decided_as, settle_in, settle_as, refused_in, allowed_in, obeyed_in, step_on, step_in}
+use Rattle.monitor.specs.Step.{Lent, lent, obeys, turned, whole, decided_in, decided_as, settle_in, settle_as, allowed_in, obeyed_in, step_on, step_in}
 
 abbrev turned_as : Parts → Answer → Turned
 turned_as p a = record { parts = p; answer = a }
@@ -50,19 +50,6 @@ settled_same o n =
 -- ---- step_on
 
 module _ (t : Tables) (r : List ℕ) where
-  -- an answer with nothing else in it
-  refused_as : (c : ℕ) (s : Said) (a : Answer) → s ≡ saying c 0 [] → a ≡ answering s 0 0 → lent (turned_as t.parts a) t.items ≡ turned (refused_in t c)
-  refused_as c s a es ea = ap (λ (x : Answer). lent (turned_as t.parts x) t.items) (ea ∙ ap (λ (x : Said). answering x 0 0) es)
-
-  pub malformed : (s : Said) (a : Answer) → formed r ≡ false → s ≡ saying 33 0 [] → a ≡ answering s 0 0 → lent (turned_as t.parts a) t.items ≡ turned (step_on t r)
-  unfolding step_on
-  malformed s a f es ea = rw f (refused_as 33 s a es ea)
-
-  pub stranger : (s : Said) (a : Answer) → formed r ≡ true → allowed_in t.parts r ≡ false → s ≡ saying 34 0 [] → a ≡ answering s 0 0
-      → lent (turned_as t.parts a) t.items ≡ turned (step_on t r)
-  unfolding step_on
-  stranger s a f m es ea = rw (f, m) (refused_as 34 s a es ea)
-
   pub heard : (o : Obeyed) (b : List ℕ) (n : ℕ) (x : Turned) → formed r ≡ true → allowed_in t.parts r ≡ true → lent o b ≡ obeys (obeyed_in t r) → n ≡ issuer r → x ≡ settle_as o n
       → lent x b ≡ turned (step_on t r)
   unfolding step_on

@@ -1,5 +1,5 @@
 -- One record by lanes: the part of the tables that it is for is asked, and no other; then the handlers. Laws/Lanes.antt shows that this is `step_on`.
-use Rattle.std.specs.Prelude.{ℕ, Bool, true, false, List, eqb, leb}
+use Rattle.std.specs.Prelude.{ℕ, Bool, true, false, List, Result, Ok, Err, eqb}
 use Rattle.base.specs.Choice.{pick}
 use Rattle.base.specs.Bytes.{blank}
 use Rattle.model.specs.Plans.{normal, Outcome, fault, done, outcome_in}
@@ -11,8 +11,14 @@ use Rattle.handlers.specs.Decide.{decide_in}
 use Rattle.handlers.specs.declared.Setting.{Setting}
 use Rattle.handlers.specs.declared.Setting.TheVariants.{Unset, Ignore, Label}
 use Rattle.monitor.specs.declared.Tables.{Tables}
-use Rattle.monitor.specs.declared.lanes.Lane.{Lane}
-use Rattle.monitor.specs.declared.lanes.Lane.TheVariants.{Malformed, Stranger, Wrong, Requests, Finish, Store, Settings}
+use Rattle.records.specs.Rows.{part_of}
+use Rattle.records.specs.declared.Part.{Part}
+use Rattle.records.specs.declared.Part.TheVariants.{Interval, Finish, Queues, Settings}
+use Rattle.frames.specs.Action.{code_of, label_of}
+use Rattle.frames.specs.declared.action.Action.{Action}
+use Rattle.frames.specs.declared.action.Action.TheVariants.{GoOn, GoTo, Abend}
+use Rattle.monitor.specs.declared.lanes.Refusal.{Refusal}
+use Rattle.monitor.specs.declared.lanes.Refusal.TheVariants.{Malformed, Stranger, Wrong}
 use Rattle.monitor.specs.declared.lanes.Verdict.{Verdict}
 use Rattle.monitor.specs.Requests.{ask_of}
 use Rattle.monitor.specs.Settings.{setting_turn}
@@ -22,73 +28,73 @@ use Rattle.monitor.specs.Step.{stepped}
 
 -- ---- the lane
 
--- by the number of the command
-unfoldable pub command_lane : ℕ → Lane
-command_lane n = pick (leb n 8) Requests (pick (eqb n 9) Finish (pick (leb n 14) Store Settings))
+-- the part that a record is for, or why it is for none
+abbrev pub Lane : Type 0
+Lane = Result Part Refusal
 
 -- of a record from an issuer who may send one, or may not
 unfoldable pub lane_of : Bool → ℕ → List ℕ → Lane
-lane_of may n r = pick (formed r) (pick may (pick (wrong_kind (row_of (command r)).who n) Wrong (command_lane (command r))) Stranger) Malformed
+lane_of may n r = pick (formed r) (pick may (pick (wrong_kind (row_of (command r)).who n) (Err Wrong) (Ok (part_of (command r)))) (Err Stranger)) (Err Malformed)
 
 -- the part that is asked
 abbrev pub for_requests : Lane → Bool
-for_requests Malformed = false
-for_requests Stranger = false
-for_requests Wrong = false
-for_requests Requests = true
-for_requests Finish = false
-for_requests Store = false
-for_requests Settings = false
+for_requests (Err Malformed) = false
+for_requests (Err Stranger) = false
+for_requests (Err Wrong) = false
+for_requests (Ok Interval) = true
+for_requests (Ok Finish) = false
+for_requests (Ok Queues) = false
+for_requests (Ok Settings) = false
 
 abbrev pub for_store : Lane → Bool
-for_store Malformed = false
-for_store Stranger = false
-for_store Wrong = false
-for_store Requests = false
-for_store Finish = false
-for_store Store = true
-for_store Settings = false
+for_store (Err Malformed) = false
+for_store (Err Stranger) = false
+for_store (Err Wrong) = false
+for_store (Ok Interval) = false
+for_store (Ok Finish) = false
+for_store (Ok Queues) = true
+for_store (Ok Settings) = false
 
 abbrev pub for_settings : Lane → Bool
-for_settings Malformed = false
-for_settings Stranger = false
-for_settings Wrong = false
-for_settings Requests = false
-for_settings Finish = false
-for_settings Store = false
-for_settings Settings = true
+for_settings (Err Malformed) = false
+for_settings (Err Stranger) = false
+for_settings (Err Wrong) = false
+for_settings (Ok Interval) = false
+for_settings (Ok Finish) = false
+for_settings (Ok Queues) = false
+for_settings (Ok Settings) = true
 
 -- the condition where no part is asked
 abbrev pub word_of : Lane → ℕ
-word_of Malformed = 33
-word_of Stranger = 34
-word_of Wrong = 10
-word_of Requests = 0
-word_of Finish = 0
-word_of Store = 0
-word_of Settings = 0
+word_of (Err Malformed) = 33
+word_of (Err Stranger) = 34
+word_of (Err Wrong) = 10
+word_of (Ok Interval) = 0
+word_of (Ok Finish) = 0
+word_of (Ok Queues) = 0
+word_of (Ok Settings) = 0
 
 -- what the part that is asked comes to; a task that finishes is removed after it
 abbrev pub laned : Lane → Tables → List ℕ → Outcome Tables
-laned Malformed t r = fault t 33
-laned Stranger t r = fault t 34
-laned Wrong t r = fault t 10
-laned Requests t r = outcome_in (with_requests t) (interval.turn t.parts.requests (ask_of (command r) r))
-laned Finish t r = done t 0
-laned Store t r = outcome_in (with_store t) (queues.turn (store_of t) (store_ask (command r) r))
-laned Settings t r = outcome_in (with_tasks t) (setting_turn t.parts.tasks (command r) r)
+laned (Err Malformed) t r = fault t 33
+laned (Err Stranger) t r = fault t 34
+laned (Err Wrong) t r = fault t 10
+laned (Ok Interval) t r = outcome_in (with_requests t) (interval.turn t.parts.requests (ask_of (command r) r))
+laned (Ok Finish) t r = done t 0
+laned (Ok Queues) t r = outcome_in (with_store t) (queues.turn (store_of t) (store_ask (command r) r))
+laned (Ok Settings) t r = outcome_in (with_tasks t) (setting_turn t.parts.tasks (command r) r)
 
 -- ---- the handlers
 
 -- 33 and 34 are no conditions of a task
 abbrev pub heard_in : Lane → Bool
-heard_in Malformed = false
-heard_in Stranger = false
-heard_in Wrong = true
-heard_in Requests = true
-heard_in Finish = true
-heard_in Store = true
-heard_in Settings = true
+heard_in (Err Malformed) = false
+heard_in (Err Stranger) = false
+heard_in (Err Wrong) = true
+heard_in (Ok Interval) = true
+heard_in (Ok Finish) = true
+heard_in (Ok Queues) = true
+heard_in (Ok Settings) = true
 
 -- whether the handlers decide at all
 abbrev pub decides_in : Lane → ℕ → ℕ → Bool
@@ -99,27 +105,32 @@ abbrev pub setting_for : Lane → ℕ → Outcome Tables → Setting
 setting_for l n o = pick (decides_in l o.condition n) (decide_in o.state.parts.tasks n o.condition) Ignore
 
 abbrev pub finishes_in : Lane → Bool
-finishes_in Malformed = false
-finishes_in Stranger = false
-finishes_in Wrong = false
-finishes_in Requests = false
-finishes_in Finish = true
-finishes_in Store = false
-finishes_in Settings = false
+finishes_in (Err Malformed) = false
+finishes_in (Err Stranger) = false
+finishes_in (Err Wrong) = false
+finishes_in (Ok Interval) = false
+finishes_in (Ok Finish) = true
+finishes_in (Ok Queues) = false
+finishes_in (Ok Settings) = false
 
-abbrev pub verdict : ℕ → ℕ → Bool → Verdict
-verdict action label ends = record { action = action; label = label; ends = ends }
+abbrev pub verdict : Action → Bool → Verdict
+verdict action ends = record { action = action; ends = ends }
+
+abbrev pub action_of : Setting → Action
+action_of Unset = Abend
+action_of Ignore = GoOn
+action_of (Label n) = GoTo n
 
 -- "Finish removes the task"; "Abend removes the task as finish does"
 abbrev pub verdict_of : Lane → Setting → Verdict
-verdict_of l Unset = verdict 2 0 true
-verdict_of l Ignore = verdict 0 0 (finishes_in l)
-verdict_of l (Label n) = verdict 1 n (finishes_in l)
+verdict_of l Unset = verdict Abend true
+verdict_of l Ignore = verdict GoOn (finishes_in l)
+verdict_of l (Label n) = verdict (GoTo n) (finishes_in l)
 
 -- ---- one record
 
 abbrev pub judged : ℕ → Outcome Tables → Verdict → Stepped Tables
-judged n o v = stepped o v.action v.label (pick v.ends (without_task o.state n) o.state)
+judged n o v = stepped o (code_of v.action) (label_of v.action) (pick v.ends (without_task o.state n) o.state)
 
 unfoldable pub lane_step : Lane → ℕ → Tables → List ℕ → Stepped Tables
 lane_step l n t r = judged n (laned l t r) (verdict_of l (setting_for l n (laned l t r)))

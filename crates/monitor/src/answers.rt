@@ -1,4 +1,6 @@
-// Answers, and what a command says before the handlers decide. The bytes are the first `len`, and zeros behind them.
+// Answers, and what a command says before the handlers decide. The bytes are the first `len`, and zeros behind them: fixed memory, for there is no heap.
+// The action and the label are the two numbers that document 01's answer has, as the theorems on the monitor speak of them.
+// The condition is a number too: the definitions of the older crates, `saying` among them, are by document 01's numbers.
 ghost use Rattle.std.specs.Prelude.{◌≡◌, [], ◌≤◌, length};
 ghost use Rattle.monitor.specs.Answers.{saying, answering};
 
@@ -53,6 +55,7 @@ pub(crate) fn carrying(condition: u8, number: u32, from: &[u8]) -> Said
 pub fn answered(s: Said, action: u8, label: u16) -> Answer
     ensures exact { result ≡ answering s action label }
 {
+    // by a name of its own: the borrow checker does not cover an array field that is given straight
     let bytes = s.bytes;
     Answer {
         condition: s.condition,

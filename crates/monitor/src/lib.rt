@@ -1,4 +1,5 @@
 // The monitor: one record in, answer and tables out. Its tables are the three parts, and the bytes of the items beside them.
+// The older form of turns and runs, whose tables go from call to call by value; it goes when the tables in place take over (docs/DECISIONS.md).
 #![tactic(auto)]
 
 use handlers::Tasks;

@@ -6,7 +6,7 @@ ghost use Rattle.monitor.specs.Step.{lent, obeys, obeyed_in};
 use crate::answers::{Said, plain};
 use crate::{Parts, requests, settings, store};
 
-// The parts after the command, and what it says.
+// The parts after the command, and what it says. Specs name the fields.
 #[derive(Clone, Copy)]
 pub struct Obeyed {
     pub parts: Parts,
@@ -24,6 +24,9 @@ pub(crate) fn without(p: Parts, task: u64) -> Parts
 }
 
 // "any other issuer gets 10, before every condition in the row"
+//
+// By the number of the command, also of one that is none, for which `deed` of specs/Step.antt names a part as well; the row's part would not.
+#[tactic(auto, unfolding(crate::specs::Step::obeyed_in, crate::specs::Step::deed))]
 pub(crate) fn obey(p: Parts, items: &mut [u8; 8192], rec: &[u8]) -> Obeyed
     ensures { lent result items.new ≡ obeys (obeyed_in (tables p items.old) rec.now) }
 {
@@ -38,10 +41,11 @@ pub(crate) fn obey(p: Parts, items: &mut [u8; 8192], rec: &[u8]) -> Obeyed
     }
     if command <= 8 {
         let a = requests::ask(p.requests, command, rec);
-        let q = a.requests;
-        let said = a.said;
-        u.requests = q;
-        return Obeyed { parts: u, said };
+        u.requests = a.requests;
+        return Obeyed {
+            parts: u,
+            said: a.said,
+        };
     }
     if command == 9 {
         return Obeyed {
@@ -51,14 +55,16 @@ pub(crate) fn obey(p: Parts, items: &mut [u8; 8192], rec: &[u8]) -> Obeyed
     }
     if command <= 14 {
         let s = store::ask(p.queues, items, command, rec);
-        let q = s.queues;
-        let said = s.said;
-        u.queues = q;
-        return Obeyed { parts: u, said };
+        u.queues = s.queues;
+        return Obeyed {
+            parts: u,
+            said: s.said,
+        };
     }
     let m = settings::ask(p.tasks, command, rec);
-    let t = m.tasks;
-    let said = m.said;
-    u.tasks = t;
-    Obeyed { parts: u, said }
+    u.tasks = m.tasks;
+    Obeyed {
+        parts: u,
+        said: m.said,
+    }
 }

@@ -1,24 +1,23 @@
 // Commands 1 to 8: the record is read, and interval control is asked.
-ghost use Rattle.std.specs.Prelude.{◌≡◌, [], ◌++◌, ◌≤◌, take};
+ghost use Rattle.std.specs.Prelude.{◌≡◌, [], ◌++◌, ◌≤◌, IfSome};
 ghost use Rattle.base.specs.Bytes.{bytes_of};
 ghost use Rattle.model.specs.Commands.{issuer, operand, asked};
 ghost use Rattle.interval.specs.Advance.{condition_of, number_of};
 ghost use Rattle.interval.specs.Cancel.{cancel_gives};
 ghost use Rattle.interval.specs.Define.{define_gives};
-ghost use Rattle.interval.specs.Dispatch.{dispatch_gives, dispatch_number, dispatch_bytes};
-ghost use Rattle.interval.specs.Retrieve.{retrieve_gives};
+ghost use Rattle.interval.specs.Dispatch.{dispatch_gives, dispatch_bytes};
+ghost use Rattle.interval.specs.Retrieve.{retrieve_gives, retrieve_number, retrieve_bytes};
 ghost use Rattle.interval.specs.Start.{start_gives};
 ghost use Rattle.interval.specs.Runs as runs;
 ghost use Rattle.monitor.specs.Answers.{saying};
 ghost use Rattle.monitor.specs.Requests.{asks, ask_of};
 
 use crate::answers::{Said, carrying, plain};
-use base::bytes::wide;
 use interval::Requests;
-use interval::advance::Passing;
-use interval::answers::{Cancel, Define, Dispatch, Retrieve, Start};
+use interval::advance::Invalid;
+use interval::answers::{CancelError, Data, DefineError, StartError, Task};
 
-// The requests after the command, and what it says.
+// The requests after the command, and what it says. Specs name the fields.
 #[derive(Clone, Copy)]
 pub struct Asked {
     pub requests: Requests,
@@ -27,105 +26,83 @@ pub struct Asked {
 
 // ---- document 01's condition of each outcome
 
-fn define_code(o: Define) -> u8
+fn define_code(o: Result<(), DefineError>) -> u8
     ensures { result ≡ define_gives o }
 {
     match o {
-        Define::Done => 0,
-        Define::Invalid => 10,
-        Define::NotUnique => 7,
-        Define::NoSpace => 1,
+        Ok(()) => 0,
+        Err(DefineError::Invalid) => 10,
+        Err(DefineError::NotUnique) => 7,
+        Err(DefineError::NoSpace) => 1,
     }
 }
 
-fn start_code(o: Start) -> u8
+fn start_code(o: Result<(), StartError>) -> u8
     ensures { result ≡ start_gives o }
 {
     match o {
-        Start::Done => 0,
-        Start::Invalid => 10,
-        Start::WrongLength => 4,
-        Start::UnknownProgram => 5,
-        Start::UnknownTerminal => 6,
-        Start::NotUnique => 7,
-        Start::NoSpace => 1,
+        Ok(()) => 0,
+        Err(StartError::Invalid) => 10,
+        Err(StartError::WrongLength) => 4,
+        Err(StartError::UnknownProgram) => 5,
+        Err(StartError::UnknownTerminal) => 6,
+        Err(StartError::NotUnique) => 7,
+        Err(StartError::NoSpace) => 1,
     }
 }
 
-fn cancel_code(o: Cancel) -> u8
+fn cancel_code(o: Result<(), CancelError>) -> u8
     ensures { result ≡ cancel_gives o }
 {
     match o {
-        Cancel::Done => 0,
-        Cancel::Invalid => 10,
-        Cancel::NotFound => 8,
-    }
-}
-
-fn retrieve_code(o: Retrieve) -> u8
-    ensures { result ≡ retrieve_gives o }
-{
-    match o {
-        Retrieve::Given => 0,
-        Retrieve::Cut => 4,
-        Retrieve::EndOfData => 9,
+        Ok(()) => 0,
+        Err(CancelError::Invalid) => 10,
+        Err(CancelError::NotFound) => 8,
     }
 }
 
 // "newly expired"
-fn passing(o: Passing) -> Said
+fn passing(o: Result<u32, Invalid>) -> Said
     ensures { result ≡ saying (condition_of o) (number_of o) [] }
 {
     match o {
-        Passing::Passed(n) => plain(0, n),
-        Passing::Invalid => plain(10, 0),
+        Ok(n) => plain(0, n),
+        Err(Invalid) => plain(10, 0),
     }
 }
 
 // "Bytes: request, program, terminal. Number: how many in the line stood before it."
-fn started(name: u64, program: u32, terminal: u32, passed: u32) -> Said
-    ensures { result ≡ saying 0 passed (bytes_of 8 name ++ bytes_of 4 program ++ bytes_of 4 terminal) }
+fn started(task: Task, passed: u32) -> Said
+    ensures { result ≡ saying 0 passed (bytes_of 8 task.name ++ bytes_of 4 task.program ++ bytes_of 4 task.terminal) }
 {
-    let mut b = [0u8; 16];
-    b[0] = (name / 72057594037927936 % 256) as u8;
-    b[1] = (name / 281474976710656 % 256) as u8;
-    b[2] = (name / 1099511627776 % 256) as u8;
-    b[3] = (name / 4294967296 % 256) as u8;
-    b[4] = (name / 16777216 % 256) as u8;
-    b[5] = (name / 65536 % 256) as u8;
-    b[6] = (name / 256 % 256) as u8;
-    b[7] = (name % 256) as u8;
-    b[8] = (program / 16777216 % 256) as u8;
-    b[9] = (program / 65536 % 256) as u8;
-    b[10] = (program / 256 % 256) as u8;
-    b[11] = (program % 256) as u8;
-    b[12] = (terminal / 16777216 % 256) as u8;
-    b[13] = (terminal / 65536 % 256) as u8;
-    b[14] = (terminal / 256 % 256) as u8;
-    b[15] = (terminal % 256) as u8;
-    carrying(0, passed, &b)
+    let mut bytes = [0u8; 16];
+    bytes[..8].copy_from_slice(&task.name.to_be_bytes());
+    bytes[8..12].copy_from_slice(&task.program.to_be_bytes());
+    bytes[12..].copy_from_slice(&task.terminal.to_be_bytes());
+    carrying(0, passed, &bytes)
 }
 
-fn dispatching(o: Dispatch) -> Said
-    ensures { result ≡ saying (dispatch_gives o) (dispatch_number o) (dispatch_bytes o) }
+fn dispatching(o: Option<Task>, passed: u32) -> Said
+    ensures { result ≡ saying (dispatch_gives o) passed (dispatch_bytes o) }
 {
     match o {
-        Dispatch::Started {
-            name,
-            program,
-            terminal,
-            passed,
-        } => started(name, program, terminal, passed),
-        Dispatch::Nothing(n) => plain(8, n),
+        Some(task) => started(task, passed),
+        None => plain(8, passed),
     }
 }
 
 // The first `len` of the bytes, of `full` that there are.
-fn handing(condition: u8, full: usize, len: usize, bytes: [u8; 64]) -> Said
-    requires { (full ≤ 64) × (len ≤ 64) }
-    ensures { result ≡ saying condition full (take len bytes) }
+fn handing(o: Option<Data>) -> Said
+    requires { IfSome o (λ d. (d.full ≤ 64) × (d.len ≤ 64)) }
+    ensures { result ≡ saying (retrieve_gives o) (retrieve_number o) (retrieve_bytes o) }
 {
-    carrying(condition, full as u32, &bytes[0..len])
+    match o {
+        Some(d) => {
+            let condition = if d.len < d.full { 4 } else { 0 };
+            carrying(condition, d.full as u32, &d.bytes[..d.len])
+        }
+        None => plain(9, 0),
+    }
 }
 
 // ---- the commands
@@ -135,11 +112,9 @@ pub fn define_program(t: Requests, rec: &[u8]) -> Asked
     ensures exact { result ≡ asks (runs.turn t (runs.Program (operand 0 4 rec.now))) }
 {
     let d = interval::define::define_program(t, records::number4_at(rec, 9));
-    let o = d.outcome;
-    let u = d.requests;
     Asked {
-        requests: u,
-        said: plain(define_code(o), 0),
+        requests: d.requests,
+        said: plain(define_code(d.outcome), 0),
     }
 }
 
@@ -148,11 +123,9 @@ pub fn define_terminal(t: Requests, rec: &[u8]) -> Asked
     ensures exact { result ≡ asks (runs.turn t (runs.Terminal (operand 0 4 rec.now))) }
 {
     let d = interval::define::define_terminal(t, records::number4_at(rec, 9));
-    let o = d.outcome;
-    let u = d.requests;
     Asked {
-        requests: u,
-        said: plain(define_code(o), 0),
+        requests: d.requests,
+        said: plain(define_code(d.outcome), 0),
     }
 }
 
@@ -161,11 +134,9 @@ pub fn advance(t: Requests, rec: &[u8]) -> Asked
     ensures exact { result ≡ asks (runs.turn t (runs.Advance (operand 0 4 rec.now))) }
 {
     let a = interval::advance::advance(t, records::number4_at(rec, 9));
-    let o = a.outcome;
-    let u = a.requests;
     Asked {
-        requests: u,
-        said: passing(o),
+        requests: a.requests,
+        said: passing(a.outcome),
     }
 }
 
@@ -184,11 +155,9 @@ pub fn dispatch(t: Requests) -> Asked
     ensures exact { result ≡ asks (runs.turn t runs.Dispatch) }
 {
     let d = interval::dispatch::dispatch(t);
-    let o = d.outcome;
-    let u = d.requests;
     Asked {
-        requests: u,
-        said: dispatching(o),
+        requests: d.requests,
+        said: dispatching(d.started, d.passed),
     }
 }
 
@@ -196,16 +165,16 @@ pub fn dispatch(t: Requests) -> Asked
 pub fn start(t: Requests, rec: &[u8]) -> Asked
     ensures exact { result ≡ asks (runs.turn t (runs.Start (asked rec.now))) }
 {
-    let name = records::name_at(rec, 9);
-    let program = records::number4_at(rec, 17);
-    let terminal = records::number4_at(rec, 21);
-    let ticks = records::number4_at(rec, 25);
-    let s = interval::start::start(t, name, program, terminal, ticks, records::rest_at(rec, 29));
-    let o = s.outcome;
-    let u = s.requests;
+    let a = interval::start::Asked {
+        name: records::name_at(rec, 9),
+        program: records::number4_at(rec, 17),
+        terminal: records::number4_at(rec, 21),
+        interval: records::number4_at(rec, 25),
+    };
+    let s = interval::start::start(t, a, records::rest_at(rec, 29));
     Asked {
-        requests: u,
-        said: plain(start_code(o), 0),
+        requests: s.requests,
+        said: plain(start_code(s.outcome), 0),
     }
 }
 
@@ -214,11 +183,9 @@ pub fn cancel(t: Requests, rec: &[u8]) -> Asked
     ensures exact { result ≡ asks (runs.turn t (runs.Cancel (operand 0 8 rec.now))) }
 {
     let d = interval::cancel::cancel(t, records::name_at(rec, 9));
-    let o = d.outcome;
-    let u = d.requests;
     Asked {
-        requests: u,
-        said: plain(cancel_code(o), 0),
+        requests: d.requests,
+        said: plain(cancel_code(d.outcome), 0),
     }
 }
 
@@ -227,14 +194,11 @@ pub fn retrieve(t: Requests, rec: &[u8]) -> Asked
     ensures exact { result ≡ asks (runs.turn t (runs.Retrieve (issuer rec.now) (operand 0 1 rec.now))) }
 {
     let task = records::issuer(rec);
-    let room = wide(records::number1_at(rec, 9));
+    let room = records::room_at(rec, 9);
     let g = interval::retrieve::retrieve(t, task, room);
-    let o = g.outcome;
-    let u = g.requests;
-    let b = g.bytes;
     Asked {
-        requests: u,
-        said: handing(retrieve_code(o), g.full, g.len, b),
+        requests: g.requests,
+        said: handing(g.outcome),
     }
 }
 

@@ -1,37 +1,34 @@
 // Commands 15 to 17: the record is read, and a setting of the issuer is made.
 ghost use Rattle.std.specs.Prelude.{◌≡◌};
 ghost use Rattle.model.specs.Commands.{issuer, operand};
-ghost use Rattle.handlers.specs.Set.{condition_of, handle_in, ignore_in, reset_in};
-ghost use Rattle.monitor.specs.Settings.{sets, sets_by, setting_turn};
+ghost use Rattle.handlers.specs.Set.{handle_in, ignore_in, reset_in};
+ghost use Rattle.monitor.specs.Settings.{sets, setting_turn};
 
 use crate::answers::{Said, plain};
 use handlers::Tasks;
-use handlers::answers::{Handled, Outcome};
+use handlers::answers::{Handled, Invalid};
 
-// The settings after the command, and what it says.
+// The settings after the command, and what it says. Specs name the fields.
 #[derive(Clone, Copy)]
 pub struct Made {
     pub tasks: Tasks,
     pub said: Said,
 }
 
-fn code(o: Outcome) -> u8
-    ensures { result ≡ condition_of o }
-{
-    match o {
-        Outcome::Done => 0,
-        Outcome::Invalid => 10,
-    }
-}
+impl From<Handled> for Made {
+    ghost use Rattle.monitor.specs.Settings.{sets, sets_by};
 
-fn set(h: Handled) -> Made
-    ensures { result ≡ sets (sets_by h) }
-{
-    let o = h.outcome;
-    let u = h.tasks;
-    Made {
-        tasks: u,
-        said: plain(code(o), 0),
+    ghost from_gives = { λ h m. m ≡ sets (sets_by h) };
+
+    fn from(h: Handled) -> Made {
+        let condition = match h.outcome {
+            Ok(()) => 0,
+            Err(Invalid) => 10,
+        };
+        Made {
+            tasks: h.tasks,
+            said: plain(condition, 0),
+        }
     }
 }
 
@@ -41,9 +38,9 @@ pub fn ask(t: Tasks, command: u8, rec: &[u8]) -> Made
 {
     let task = records::issuer(rec);
     let condition = records::number1_at(rec, 9);
-    match command {
-        15 => set(handlers::set::handle(t, task, condition, records::number2_at(rec, 10))),
-        16 => set(handlers::set::ignore(t, task, condition)),
-        _ => set(handlers::set::reset(t, task, condition)),
-    }
+    Made::from(match command {
+        15 => handlers::set::handle(t, task, condition, records::number2_at(rec, 10)),
+        16 => handlers::set::ignore(t, task, condition),
+        _ => handlers::set::reset(t, task, condition),
+    })
 }

@@ -6,10 +6,12 @@ ghost use Rattle.monitor.specs.Step.{lent, allowed_in, refused_in, step_on, step
 
 use crate::answers::{Answer, answered, plain};
 use crate::obey::obey;
-use crate::settle::{SYSTEM, Turned, settle};
+use crate::settle::{Turned, settle};
 use crate::sound::sound;
 use crate::{Parts, Tables};
+use base::names::BLANK;
 
+// The tables after the record, and its answer. Specs name the fields.
 #[derive(Clone, Copy)]
 pub struct Stepped {
     pub tables: Tables,
@@ -21,13 +23,11 @@ fn allowed(p: Parts, rec: &[u8]) -> bool
     ensures { result ≡ allowed_in p rec.now }
 {
     let issuer = records::issuer(rec);
-    if issuer == SYSTEM {
-        return true;
-    }
-    interval::active::is_active(p.requests, issuer)
+    issuer == BLANK || interval::active::is_active(p.requests, issuer)
 }
 
 // Without the test of soundness, for whoever knows that the tables are sound; the bytes of the items are lent.
+#[tactic(auto, unfolding(crate::specs::Step::step_on))]
 pub fn step_on(p: Parts, items: &mut [u8; 8192], rec: &[u8]) -> Turned
     ensures exact { lent result items.new ≡ turned (step_on (tables p items.old) rec.now) }
 {
@@ -61,11 +61,11 @@ pub fn step(t: Tables, rec: &[u8]) -> Stepped
     }
     let mut b = t.items;
     let s = step_on(p, &mut b, rec);
-    let a = s.answer;
-    let q = s.parts;
-    let u = Tables { parts: q, items: b };
     Stepped {
-        tables: u,
-        answer: a,
+        tables: Tables {
+            parts: s.parts,
+            items: b,
+        },
+        answer: s.answer,
     }
 }

@@ -3,7 +3,7 @@ use Rattle.std.specs.Prelude.{ℕ, zero, suc, ◌+◌, ◌-◌, ◌*◌, ◌/◌
 use Rattle.std.specs.Fmt.{decimal as text_of}
 use Rattle.std.proofs.Math.Nat.{pow-suc}
 use Rattle.std.proofs.lemmas.Fmt.{decimal_digit, decimal_step}
-use Rattle.std.proofs.Common.{arith, ap, ap₂, ◌∙◌, sym, lt-ltb, ltb-true, ltb-false}
+use Rattle.std.proofs.Common.{arith, ap, ap₂, ◌∙◌, lt-ltb, ltb-true, ltb-false}
 use Rattle.base.specs.Laws.Tests.{by_test}
 use Rattle.print.specs.Text.{hex_digit_ascii, last_digits, IsDigitCount}
 

@@ -1,5 +1,5 @@
 -- Document 01, "The program and its printed form": the lines of answers.
-use Rattle.std.specs.Prelude.{ℕ, zero, suc, ◌+◌, Bool, ◌&&◌, List, [], ◌∷◌, ◌++◌, length, take, drop, leb, eqb}
+use Rattle.std.specs.Prelude.{Option, Some, None, ℕ, zero, suc, ◌+◌, Bool, ◌&&◌, List, [], ◌∷◌, ◌++◌, length, take, drop, leb, eqb}
 use Rattle.base.specs.Choice.{pick}
 use Rattle.base.specs.Bytes.{num}
 use Rattle.model.specs.Commands.{Answer}
@@ -31,8 +31,8 @@ abbrev pub is_answer : List ℕ → Bool
 is_answer l = leb 10 (length l) && leb 8 (num 0 2 l) && leb (2 + num 0 2 l) (length l)
 
 -- how many bytes it has there, its length field counted
-unfoldable pub answer_size : List ℕ → ℕ
-answer_size l = pick (is_answer l) (2 + num 0 2 l) 0
+unfoldable pub answer_size : List ℕ → Option ℕ
+answer_size l = pick (is_answer l) (Some (2 + num 0 2 l)) None
 
 -- the answer of these bytes
 abbrev pub answer_of : List ℕ → Answer

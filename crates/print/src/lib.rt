@@ -3,5 +3,4 @@
 #![tactic(auto)]
 
 pub mod lines;
-mod numbers;
 mod text;

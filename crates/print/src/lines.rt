@@ -1,13 +1,13 @@
 // "prints a line for each answer: place (from 1), condition, action, label and number in decimal, then the bytes in
 // lower-case hex or "-" if there are none, one space between."
-ghost use Rattle.std.specs.Prelude.{◌≡◌, [], ◌∷◌, ◌+◌, ◌≤◌, length, drop};
+ghost use Rattle.std.specs.Prelude.{◌≡◌, ◌≤◌, length};
 ghost use Rattle.std.specs.Counts.{IsPrefixLen};
 ghost use Rattle.frames.specs.Writing.{written};
 ghost use Rattle.print.specs.Text.{laid, puts};
 ghost use Rattle.print.specs.Lines.{lines_of, refusal_line, line_of, answer_of, bytes_text, answer_size};
 
-use super::numbers::number;
 use super::text::{put, put_hex, put_word};
+use base::bytes::number_at;
 
 // The lines of the answers that stand one behind the other in `answers`, up to the first that is none. Returns how many
 // bytes of the buffer they took; they are cut where it ends, and what stands behind them is kept.
@@ -17,17 +17,15 @@ pub fn lines(answers: &[u8], out: &mut [u8]) -> usize
 {
     let mut end: usize = 0;
     let mut place: u64 = 1;
-    let mut from: usize = 0;
-    loop {
-        let n = answer_at(answers, from);
-        if n == 0 {
-            return end;
-        }
-        let next = from + n;
-        end = put_line(out, end, place, &answers[from..next]);
-        place = place + 1;
-        from = next;
+    let mut left = answers;
+    // no iterator over parts: the answers are no slices of one length
+    while let Some(n) = answer_size(left) {
+        let (answer, behind) = left.split_at(n);
+        end = put_line(out, end, place, answer);
+        place += 1;
+        left = behind;
     }
+    end
 }
 
 // "A refused list prints the single line `0 35 0 0 0 -`."
@@ -38,24 +36,16 @@ pub fn refusal(out: &mut [u8]) -> usize
     put_line(out, 0, 0, &[0, 8, 35, 0, 0, 0, 0, 0, 0, 0])
 }
 
-// How many bytes the answer at a place has, its length field counted; none where no answer stands there.
-fn answer_at(answers: &[u8], from: usize) -> usize
-    ensures { result ≡ answer_size (drop from answers.now) }
+// How many bytes the answer at the front has, its length field counted; None where no answer stands there.
+fn answer_size(left: &[u8]) -> Option<usize>
+    ensures { result ≡ answer_size left.now }
 {
-    if answers.len() < from {
-        return 0;
+    let n = 2 + number_at(left, 0, 2) as usize;
+    if 10 <= n && n <= left.len() {
+        Some(n)
+    } else {
+        None
     }
-    if answers.len() - from < 10 {
-        return 0;
-    }
-    let n = number(answers, from, 2) as usize;
-    if n < 8 {
-        return 0;
-    }
-    if answers.len() - from - 2 < n {
-        return 0;
-    }
-    2 + n
 }
 
 fn put_line(out: &mut [u8], at: usize, place: u64, answer: &[u8]) -> usize
@@ -63,10 +53,10 @@ fn put_line(out: &mut [u8], at: usize, place: u64, answer: &[u8]) -> usize
     ensures { written result out.new ≡ puts (written at out.old) (line_of place (answer_of answer.now)) }
 {
     let a = put_word(out, at, place);
-    let b = put_word(out, a, number(answer, 2, 1));
-    let c = put_word(out, b, number(answer, 3, 1));
-    let d = put_word(out, c, number(answer, 4, 2));
-    let e = put_word(out, d, number(answer, 6, 4));
+    let b = put_word(out, a, number_at(answer, 2, 1));
+    let c = put_word(out, b, number_at(answer, 3, 1));
+    let d = put_word(out, c, number_at(answer, 4, 2));
+    let e = put_word(out, d, number_at(answer, 6, 4));
     let f = put_bytes(out, e, &answer[10..]);
     put(out, f, b'\n')
 }
@@ -75,8 +65,9 @@ fn put_line(out: &mut [u8], at: usize, place: u64, answer: &[u8]) -> usize
 fn put_bytes(out: &mut [u8], at: usize, bytes: &[u8]) -> usize
     ensures { written result out.new ≡ puts (written at out.old) (bytes_text bytes.now) }
 {
-    if bytes.len() == 0 {
-        return put(out, at, b'-');
+    if bytes.is_empty() {
+        put(out, at, b'-')
+    } else {
+        put_hex(out, at, bytes)
     }
-    put_hex(out, at, bytes)
 }

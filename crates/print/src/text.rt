@@ -1,5 +1,6 @@
 // Text put behind text in a lent buffer, and cut where the buffer ends: the first `at` bytes of it are text so far.
-ghost use Rattle.std.specs.Prelude.{◌≡◌, [], ◌∷◌, ◌++◌, ◌<◌};
+// A struct that holds the buffer and its place would say twice more in each function: that it is the same buffer, and as long.
+ghost use Rattle.std.specs.Prelude.{◌≡◌, [], ◌∷◌, ◌<◌};
 ghost use Rattle.frames.specs.Writing.{written};
 ghost use Rattle.print.specs.Text.{put as Text·put, puts, hex_digit_ascii, hex_of};
 ghost use Rattle.print.specs.Lines.{word};
@@ -12,9 +13,10 @@ pub(crate) fn put(out: &mut [u8], at: usize, byte: u8) -> usize
 {
     if at < out.len() {
         out[at] = byte;
-        return at + 1;
+        at + 1
+    } else {
+        at
     }
-    at
 }
 
 // Each byte as it stands.
@@ -22,10 +24,8 @@ pub(crate) fn put_all(out: &mut [u8], at: usize, bytes: &[u8]) -> usize
     ensures { written result out.new ≡ puts (written at out.old) bytes.now }
 {
     let mut end = at;
-    let mut i: usize = 0;
-    while i < bytes.len() {
-        end = put(out, end, bytes[i]);
-        i = i + 1;
+    for byte in bytes {
+        end = put(out, end, *byte);
     }
     end
 }
@@ -43,10 +43,14 @@ fn glyph(digit: u8) -> u8
     requires { digit < 16 }
     ensures { result ≡ hex_digit_ascii digit }
 {
-    if digit < 10 { 48 + digit } else { 87 + digit }
+    if digit < 10 {
+        b'0' + digit
+    } else {
+        b'a' - 10 + digit
+    }
 }
 
-// A byte "in lower-case hex".
+// A byte "in lower-case hex": by hand, as the text is cut where the buffer ends.
 fn put_pair(out: &mut [u8], at: usize, byte: u8) -> usize
     ensures { written result out.new ≡ puts (written at out.old) (hex_of (byte ∷ [])) }
 {
@@ -59,10 +63,8 @@ pub(crate) fn put_hex(out: &mut [u8], at: usize, bytes: &[u8]) -> usize
     ensures { written result out.new ≡ puts (written at out.old) (hex_of bytes.now) }
 {
     let mut end = at;
-    let mut i: usize = 0;
-    while i < bytes.len() {
-        end = put_pair(out, end, bytes[i]);
-        i = i + 1;
+    for byte in bytes {
+        end = put_pair(out, end, *byte);
     }
     end
 }

@@ -1,10 +1,11 @@
 // What the list program prints of a list.
-ghost use Rattle.std.specs.Prelude.{◌≡◌, min};
+ghost use Rattle.std.specs.Prelude.{◌≡◌};
 ghost use Rattle.std.specs.Counts.{IsPrefixLen};
 ghost use Rattle.frames.specs.Writing.{written};
 ghost use Rattle.print.specs.Text.{laid};
 ghost use Rattle.printed.specs.Form.{formed};
 
+use base::sets::front;
 use lists::run::run;
 use print::lines::{lines, refusal};
 
@@ -18,17 +19,9 @@ pub fn form(list: &[u8], out: &mut [u8]) -> usize
     ensures exact { written result out.new ≡ laid (formed list.now) out.old }
 {
     let mut answers = [0u8; ROOM];
-    let ran = run(list, &mut answers);
-    if ran.code != 0 {
+    let Ok(written) = run(list, &mut answers) else {
         return refusal(out);
-    }
+    };
     // a run writes no more than the buffer has: that is not asked of it here
-    let n = at_most(ran.written, ROOM);
-    lines(&answers[..n], out)
-}
-
-fn at_most(n: usize, most: usize) -> usize
-    ensures { result ≡ min n most }
-{
-    if n < most { n } else { most }
+    lines(front(&answers, written), out)
 }

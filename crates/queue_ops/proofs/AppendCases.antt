@@ -1,23 +1,23 @@
 -- The cases of an append, and what its stores leave. Assumes nothing.
-use mathlib.Core.Path.{◌≡◌, refl, sym, ap, ◌∙◌}
+use mathlib.Core.Path.{◌≡◌, sym, ap, ◌∙◌}
 use mathlib.Core.Bool.{Bool, true, false, not, ◌&&◌, ◌||◌}
 use mathlib.Core.List.{List}
 use Prim.Native.Nat.{ℕ, ◌+◌, ◌*◌, ◌<◌, ◌≤◌, min}
 use native.Mathlib.Omega.{arith}
 use lib.Dec.{leb, ltb}
-use lib.ListN.{length, take, get_or, set, length-take, length-set}
-use borrow.Author.Tests.{eq-eqb, ne_eqb, le-leb, lt-leb, not-true, not-false}
+use lib.ListN.{length, get_or, set, length-take, length-set}
+use borrow.Author.Tests.{eq-eqb, ne_eqb, lt-leb, not-true, not-false}
 use Rattle.base.specs.Lists.{has, copies}
 use Rattle.base.specs.Bytes.{blank, stored}
 use Rattle.base.specs.Laws.Tests.{by_test}
-use Rattle.slots.specs.Bits.{held, free_for, marked}
+use Rattle.slots.specs.Bits.{free_for, marked}
 use Rattle.slots.specs.Told.{Typed, Free}
 use Rattle.slots.specs.declared.Used.{Used}
-use Rattle.slots.specs.declared.Slot.{Slot}
-use Rattle.slots.specs.declared.Slot.TheVariants.{At, Full}
+use Rattle.std.specs.Prelude.{Option}
+use Rattle.std.specs.Prelude.{Some, None}
 use Rattle.model.specs.Plans.{no_space, wrong_length, invalid_request, fault, done}
 use Rattle.queue_rows.specs.declared.Columns.{Columns}
-use Rattle.queue_rows.specs.Table.{Queues, rows_in, slots_in, names_of, entries, store}
+use Rattle.queue_rows.specs.Table.{Queues, rows_in, slots_in, names_of, entries, owners, store}
 use Rattle.queue_rows.specs.Append.{grown, with_queue, put, in_slot, append_to}
 use Rattle.queue_rows.specs.Layout.{Laid, seen}
 use Rattle.queue_rows.specs.Laws.Columns.{with_count, with_names, with_pointers, with_owner, with_slot, with_len, slot_lies, names_stored, pointers_stored, owner_stored, slot_stored, len_stored, count_stored, used_stored, laid_as}
@@ -59,13 +59,7 @@ module _ (l : Columns) (w : List ℕ) (h : Laid (length w) l) where
 -- ---- a row for the name
 
 module _ (q : Queues) (n : ℕ) where
-  pub row_had : has n (names_of q) ≡ true → Rowed q q n true
-  row_had t = record { told = rw t; left = rw t }
-
   module _ (f : has n (names_of q) ≡ false) where
-    pub row_refused : rows_in q ≤ q.count → Rowed q q n false
-    row_refused b = record { told = rw (f, le-leb (rows_in q) q.count b); left = refl }
-
     pub row_made : (p : Queues) → q.count < rows_in q → p ≡ grown q n → Rowed q p n true
     row_made p b e = record { told = rw (f, lt-leb (rows_in q) q.count b); left = rw f e }
 
@@ -83,9 +77,9 @@ pub record Within (e k copies slots : ℕ) : Type 0 where
   pub below : k < 128
   pub few : copies ≤ 128
 
-pub within : (l : Columns) (w : List ℕ) → Laid (length w) l → (may m n e c k : ℕ) → Typed (seen l w).used → Free m (seen l w).used k
-    → free_for (min may l.slots) (seen l w).used ≡ At k → e ≡ entries (seen l w) → c ≡ copies n (take e (seen l w).owner) → Within e k c l.slots
-within l w h may m n e c k t f is ee ec =
+pub within : (l : Columns) (w : List ℕ) → Laid (length w) l → (may m n k : ℕ) → Typed (seen l w).used → Free m (seen l w).used k
+    → free_for (min may l.slots) (seen l w).used ≡ Some k → Within (entries (seen l w)) k (copies n (owners (seen l w))) l.slots
+within l w h may m n k t f is =
     let q = seen l w in
     let d = (slot_lies l w h).long in
     let o = free_open q t may k (ap (λ (x : ℕ). free_for (min may x) q.used) d ∙ is) in
@@ -93,17 +87,18 @@ within l w h may m n e c k t f is ee ec =
       entry = omega (arith, o.room);
       slot = omega (arith, o.below);
       below = f.below;
-      few = omega (arith, f.room, copies_le n (take e q.owner), length-take e q.owner);
+      few = omega (arith, f.room, copies_le n (owners q), length-take (entries q) q.owner);
     }
 
-module _ (q : Queues) (b : List ℕ) (n : ℕ) (item : List ℕ) (s : Slot) where
-  pub slot_none : s ≡ Full → fault (store q b) no_space ≡ in_slot q b n item s
+module _ (q : Queues) (b : List ℕ) (n : ℕ) (item : List ℕ) (s : Option ℕ) where
+  pub slot_none : s ≡ None → fault (store q b) no_space ≡ in_slot q b n item s
   slot_none e = rw e
 
-  pub slot_taken : (k e c : ℕ) (u v : Used) (p : Queues) (a : List ℕ) → s ≡ At k → u ≡ q.used → v ≡ marked u k → e ≡ held u → c ≡ copies n (take e q.owner)
-      → p ≡ entered q v e n k (length item) → a ≡ stored b (k * 64) item → done (store p a) (c + 1) ≡ in_slot q b n item s
+  pub slot_taken : (k : ℕ) (v : Used) (p : Queues) (a : List ℕ) → s ≡ Some k → v ≡ marked q.used k
+      → p ≡ entered q v (entries q) n k (length item) → a ≡ stored b (k * 64) item
+      → done (store p a) (copies n (owners q) + 1) ≡ in_slot q b n item s
   unfolding put
-  slot_taken k e c u v p a es eu ev ee ec ep ea = rw (es, ep, ea, ec, ee, ev, eu)
+  slot_taken k v p a es ev ep ea = rw (es, ep, ea, ev)
 
 -- ---- the cases
 

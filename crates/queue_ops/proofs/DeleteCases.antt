@@ -1,5 +1,5 @@
 -- The cases of a delete, and what is left where a row goes. Assumes nothing.
-use mathlib.Core.Path.{◌≡◌, sym, ap, ap₂, ◌∙◌, subst}
+use mathlib.Core.Path.{◌≡◌, refl, sym, ap, ap₂, ◌∙◌}
 use mathlib.Core.Bool.{true, false}
 use mathlib.Core.List.{List, ◌++◌, append_assoc}
 use Prim.Native.Nat.{ℕ, ◌+◌, ◌-◌, ◌<◌, ◌≤◌, min}
@@ -25,6 +25,7 @@ use Rattle.queue_rows.specs.Laws.DeleteLists.{less_le, but_long, others_long}
 use Rattle.queue_rows.specs.Laws.Columns.{with_count, with_used, with_names, with_pointers, Lies, names_lies, pointers_lies, owner_lies, slot_lies, names_put, pointers_put, entries_lent, entries_put, count_stored, used_stored, laid_as}
 use Rattle.queue_ops.specs.Row.{less_row}
 use Rattle.queue_ops.specs.Sweep.{Swept}
+use Rattle.queue_ops.proofs.SweepLaws.{swept_in}
 use Rattle.queue_ops.proofs.Seeks.{take_at_most}
 
 -- ---- a row less in a column
@@ -114,19 +115,18 @@ part_long a k w h = simp (length-take, length-drop) (omega arith)
 
 module _ (l : Columns) (w : List ℕ) (h : Laid (length w) l) (long : 3 ≤ length w) (name n : ℕ) (u v : Used) (j : ℕ) (t : List ℕ)
     (eu : u ≡ (seen l w).used) (en : n ≡ min (held u) l.slots)
-    (g : let part = take (l.len - l.owner) (drop l.owner w) in Swept name (take l.slots part) (drop l.slots part) u n v j t) where
+    (g : let part = take (l.len - l.owner) (drop l.owner w) in Swept name (take l.slots part) (drop l.slots part) u n v j (take l.slots t) (drop l.slots t)) where
   abbrev p : Queues
   p = seen l w
 
-  swept : Swept name p.owner p.slot u n v j t
+  swept : Swept name p.owner p.slot u n v j (take l.slots t) (drop l.slots t)
   swept =
       let part : List ℕ = take (l.len - l.owner) (drop l.owner w) in
       let o : take l.slots part ≡ p.owner =
       ap (take l.slots) (entries_lent l w h) ∙ take_at p.owner p.slot l.slots (owner_lies l w h).long in
       let s : drop l.slots part ≡ p.slot =
       ap (drop l.slots) (entries_lent l w h) ∙ drop_at p.owner p.slot l.slots (owner_lies l w h).long in
-      subst (λ (x : List ℕ). Swept name x p.slot u n v j t) o
-      (subst (λ (y : List ℕ). Swept name (take l.slots part) y u n v j t) s g)
+      swept_in o s refl g
 
   entries_is : held u ≡ entries p
   entries_is = ap (λ (x : Used). held x) eu
@@ -169,7 +169,9 @@ module _ (l : Columns) (w : List ℕ) (h : Laid (length w) l) (long : 3 ≤ leng
       ∙ (slot_lies l w h).long
 
   left : t ≡ os ++ ss
-  left = swept.left ∙ ap₂ (λ (x y : List ℕ). over (others_than name x) p.owner ++ over (slots_but name x y) p.slot) owners_is places_is
+  left =
+      sym (take-append-drop l.slots t) ∙ ap₂ (λ (x y : List ℕ). x ++ y) swept.owners swept.slots
+      ∙ ap₂ (λ (x y : List ℕ). over (others_than name x) p.owner ++ over (slots_but name x y) p.slot) owners_is places_is
 
   left_used : v ≡ clear_all p.used (slots_named p name)
   left_used =

@@ -1,29 +1,14 @@
--- Words of 0: the loop that lays them, and what is seen in them. Assumes nothing.
+-- What is seen in words of 0. Assumes nothing.
 use mathlib.Core.Path.{◌≡◌, refl, sym, ap, ◌∙◌}
-use mathlib.Core.List.{List, ◌∷◌, ◌++◌, append-nil}
-use Prim.Native.Nat.{ℕ, zero, suc, ◌+◌, ◌-◌, ◌<◌, ◌≤◌, min}
+use mathlib.Core.List.{List, ◌∷◌}
+use Prim.Native.Nat.{ℕ, zero, suc, ◌+◌, ◌-◌, min}
 use native.Mathlib.Omega.{arith}
-use lib.ListN.{length, take, drop, get_or, set, replicate, length-take, length-drop, length-replicate, replicate-append-replicate, drop_of_length-le}
-use Rattle.base.specs.Lists.{over}
-use Rattle.base.specs.Laws.Over.{over_set}
+use lib.ListN.{length, take, drop, get_or, replicate, length-take, length-drop, length-replicate}
 use Rattle.queue_rows.specs.Table.{slots_for, rows_for, columns, view_of}
 use Rattle.queue_rows.specs.Fresh.{fresh_of}
 
 abbrev pub zeros : ℕ → List ℕ
 zeros n = replicate n 0
-
--- ---- one more
-
-pub zeros_more : (l : List ℕ) (i : ℕ) → i < length l → set (over (zeros i) l) i 0 ≡ over (zeros (i + 1)) l
-zeros_more l i h =
-    let n : length (zeros i) ≡ i = length-replicate {A = ℕ} i 0 in
-    ap (λ (k : ℕ). set (over (zeros i) l) k 0) (sym n) ∙ over_set (zeros i) l 0 (omega arith)
-    ∙ ap (λ (r : List ℕ). over r l) (replicate-append-replicate {A = ℕ} i 1 0)
-
-pub zeros_all : (l : List ℕ) (i : ℕ) → length l ≤ i → over (zeros i) l ≡ zeros i
-zeros_all l i h =
-    let n : length (zeros i) ≡ i = length-replicate {A = ℕ} i 0 in
-    ap (λ (r : List ℕ). zeros i ++ r) (drop_of_length-le l {i = length (zeros i)} (omega arith)) ∙ append-nil (zeros i)
 
 -- ---- what is seen
 

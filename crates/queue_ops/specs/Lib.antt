@@ -1,4 +1,4 @@
-pub mod Sought
+pub mod Seen
 pub mod Entry
 pub mod Sweep
 pub mod Row

@@ -1,67 +1,79 @@
 // Command 14, delete queue: the queue's row goes and its items with it, and their slots are free again.
-ghost use Rattle.std.specs.Prelude.{◌≡◌, List, ℕ, ◌≤◌, ◌<◌, ◌+◌, min, length, take, drop};
-ghost use Rattle.base.specs.Lists.{copies};
+ghost use Rattle.std.specs.Prelude.{◌≡◌, List, ℕ, ◌≤◌, ◌+◌, length, take, drop};
 ghost use Rattle.words.specs.Said.{gave, handed};
-ghost use Rattle.queue_rows.specs.Table.{view_of, owners};
-ghost use Rattle.queue_rows.specs.Delete.{emptied, delete_from};
-ghost use Rattle.queue_rows.specs.Layout.{Laid, seen};
-ghost use Rattle.queue_ops.specs.Row.{less_row};
+ghost use Rattle.queue_rows.specs.Table.{view_of};
+ghost use Rattle.queue_rows.specs.Delete.{delete_from};
 ghost use Rattle.queue_ops.specs.Sweep.{Swept};
 
-use crate::place::row_of;
+use crate::table::Table;
 use base::names::BLANK;
-use base::sets::least;
-use queue_rows::{Columns, layout, used};
+use queue_rows::Columns;
 use slots::Used;
-use words::cells::word_at;
 use words::rows::shut;
-use words::said::{Condition, Said, plain};
+use words::said::{Condition, Said};
 
 pub fn delete(queues: &mut [u64], items: &[u8], name: u64) -> Said
     ensures exact { (b : List ℕ) → gave result (view_of queues.new (length items.now)) b ≡ handed (delete_from (view_of queues.old (length items.now)) name) b }
-    ensures short { result.len ≤ 64 }
 {
     if name == BLANK {
-        return plain(Condition::InvalidRequest, 0);
+        return Said::plain(Condition::InvalidRequest, 0);
     }
-    let l = layout(queues.len(), items.len());
-    let row = row_of(queues, l, name);
-    if row >= l.rows {
-        return plain(Condition::UnknownQueue, 0);
-    }
-    shut_row(queues, l, row);
-    let freed = sweep(queues, l, name);
-    plain(Condition::Normal, freed as u32)
+    let mut table = Table::new(queues, items.len());
+    let Some(row) = table.row_of(name) else {
+        return Said::plain(Condition::UnknownQueue, 0);
+    };
+    table.shut_row(row);
+    let freed = table.sweep(name);
+    Said::plain(Condition::Normal, freed as u32)
 }
 
-// The row goes, and the later ones move down.
-fn shut_row(queues: &mut [u64], l: Columns, row: usize)
-    requires { Laid (length queues.old) l × (row < min (seen l queues.old).count l.rows) }
-    ensures { seen l queues.new ≡ less_row (seen l queues.old) row }
-{
-    let names = l.names;
-    let pointers = l.pointers;
-    let m = least(word_at(queues, 0) as usize, l.rows);
-    shut(&mut queues[names..names + m], row, 1);
-    shut(&mut queues[pointers..pointers + m], row, 1);
-    queues[0] = (m - 1) as u64;
-}
+impl Table<'_> {
+    ghost use Rattle.std.specs.Prelude.{◌≡◌, ◌<◌, ◌≤◌, min, length};
+    ghost use Rattle.base.specs.Lists.{copies};
+    ghost use Rattle.queue_rows.specs.Table.{owners};
+    ghost use Rattle.queue_rows.specs.Delete.{emptied};
+    ghost use Rattle.queue_ops.specs.Row.{less_row};
+    ghost use Rattle.queue_ops.specs.Seen.{Same, queues_in};
 
-// The entries of the name go, and their slots are free; how many they were.
-fn sweep(queues: &mut [u64], l: Columns, name: u64) -> usize
-    requires { Laid (length queues.old) l × (3 ≤ length queues.old) }
-    ensures freed { result ≡ copies name (owners (seen l queues.old)) }
-    ensures left { seen l queues.new ≡ emptied (seen l queues.old) name }
-{
-    let owner = l.owner;
-    let len = l.len;
-    let u = used(queues);
-    let n = least(slots::count(u), l.slots);
-    let kept = keep_others(&mut queues[owner..len], l.slots, n, name, u);
-    let v = kept.used;
-    queues[1] = v.lo;
-    queues[2] = v.hi;
-    n - kept.count
+    // The row goes, and the later ones move down.
+    fn shut_row(&mut self, row: usize)
+        requires { row < min (queues_in self.old).count self.old.at.rows }
+        ensures same { Same self.old self.new }
+        ensures left { queues_in self.new ≡ less_row (queues_in self.old) row }
+    {
+        let Columns {
+            names,
+            pointers,
+            rows,
+            ..
+        } = self.at;
+        let m = self.count().min(rows);
+        shut(&mut self.words[names..names + m], row, 1);
+        shut(&mut self.words[pointers..pointers + m], row, 1);
+        self.words[0] = (m - 1) as u64;
+    }
+
+    // The entries of the name go, and their slots are free; how many they were.
+    fn sweep(&mut self, name: u64) -> usize
+        requires { 3 ≤ length self.old.words.now }
+        ensures same { Same self.old self.new }
+        ensures freed { result ≡ copies name (owners (queues_in self.old)) }
+        ensures left { queues_in self.new ≡ emptied (queues_in self.old) name }
+    {
+        let Columns {
+            owner,
+            len,
+            slots,
+            ..
+        } = self.at;
+        let u = self.used();
+        let n = slots::count(u).min(slots);
+        let kept = keep_others(&mut self.words[owner..len], slots, n, name, u);
+        let v = kept.used;
+        self.words[1] = v.lo;
+        self.words[2] = v.hi;
+        n - kept.count
+    }
 }
 
 #[derive(Clone, Copy)]
@@ -70,25 +82,25 @@ struct Kept {
     count: usize, // how many entries stay
 }
 
-// Of the first n entries those of the name go, and the others move down; an entry's slot stands `slots` words behind its owner.
+// Of the first n entries those of the name go, and the others move down; the slots stand behind the owners, as many of both.
 fn keep_others(entries: &mut [u64], slots: usize, n: usize, name: u64, u: Used) -> Kept
     requires { (length entries.old ≡ slots + slots) × (n ≤ slots) }
-    ensures { Swept name (take slots entries.old) (drop slots entries.old) u n result.used result.count entries.new }
+    ensures { Swept name (take slots entries.old) (drop slots entries.old) u n result.used result.count (take slots entries.new) (drop slots entries.new) }
 {
+    // Two slices lose the same entries, so no method of one of them serves.
+    let (owner, slot) = entries.split_at_mut(slots);
     let mut v = u;
-    let mut i: usize = 0;
     let mut j: usize = 0;
-    while i < n {
-        let o = entries[i];
-        let s = entries[slots + i];
+    for i in 0..n {
+        let o = owner[i];
+        let s = slot[i];
         if o == name {
             v = slots::clear(v, s as usize);
         } else {
-            entries[j] = o;
-            entries[slots + j] = s;
+            owner[j] = o;
+            slot[j] = s;
             j += 1;
         }
-        i += 1;
     }
     Kept { used: v, count: j }
 }

@@ -3,13 +3,11 @@ ghost use Rattle.std.specs.Prelude.{◌≡◌, length};
 ghost use Rattle.queue_rows.specs.Table.{view_of};
 ghost use Rattle.queue_rows.specs.Fresh.{fresh_of};
 
+use words::cells::clear;
+
 // No queue, and every slot free: every word is 0. The items are lent for their length alone.
 pub fn fresh(queues: &mut [u64], items: &[u8])
     ensures exact { view_of queues.new (length items.now) ≡ fresh_of (view_of queues.old (length items.now)) }
 {
-    let mut i: usize = 0;
-    while i < queues.len() {
-        queues[i] = 0;
-        i += 1;
-    }
+    clear(queues);
 }

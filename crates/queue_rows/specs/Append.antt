@@ -4,8 +4,8 @@ use Rattle.base.specs.Choice.{pick}
 use Rattle.base.specs.Lists.{has, copies}
 use Rattle.base.specs.Bytes.{blank, stored}
 use Rattle.slots.specs.Bits.{free_for, marked}
-use Rattle.slots.specs.declared.Slot.{Slot}
-use Rattle.slots.specs.declared.Slot.TheVariants.{At, Full}
+use Rattle.std.specs.Prelude.{Option}
+use Rattle.std.specs.Prelude.{Some, None}
 use Rattle.model.specs.Limits.{some}
 use Rattle.model.specs.Plans.{no_space, wrong_length, invalid_request, Outcome, fault, done}
 use Rattle.queue_rows.specs.Table.{Queues, rows_in, slots_in, names_of, entries, owners, Store, store}
@@ -41,9 +41,9 @@ put q n size k = record {
 }
 
 -- an item of a queue that has a row goes into the slot that is free
-abbrev pub in_slot : Queues → List ℕ → ℕ → List ℕ → Slot → Outcome Store
-in_slot q b n item Full = fault (store q b) no_space
-in_slot q b n item (At k) = done (store (put q n (length item) k) (stored b (k * 64) item)) (copies n (owners q) + 1)
+abbrev pub in_slot : Queues → List ℕ → ℕ → List ℕ → Option ℕ → Outcome Store
+in_slot q b n item None = fault (store q b) no_space
+in_slot q b n item (Some k) = done (store (put q n (length item) k) (stored b (k * 64) item)) (copies n (owners q) + 1)
 
 -- "10 if blank, 4 length not 1..64, 1": the name is unknown and there are as many queues as there can be, or the slots that the asker may fill are in use
 unfoldable pub append_to : Queues → List ℕ → ℕ → ℕ → List ℕ → Outcome Store

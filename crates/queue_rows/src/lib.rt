@@ -4,11 +4,11 @@
 ghost use Rattle.std.specs.Prelude.{◌≡◌, get_or};
 ghost use Rattle.queue_rows.specs.Layout.{Laid, Sized};
 
-use base::sets::least;
 use slots::Used;
 use words::cells::word_at;
 
-// Where the columns begin, one behind the other, and how many rows and slots there are.
+// Where the columns begin, one behind the other, and how many rows and slots there are. Columns, and not rows of several words: queues and slots are lent
+// in any proportion, and `base::sets` looks through a column as it lies.
 #[derive(Clone, Copy)]
 pub struct Columns {
     pub names: usize,
@@ -25,9 +25,9 @@ pub fn layout(words: usize, bytes: usize) -> Columns
     ensures laid { Laid words result }
     ensures sized { Sized words bytes result }
 {
-    let names = least(3, words);
+    let names = words.min(3);
     let room = words - names;
-    let slots = least(least(bytes / 64, room / 3), 128);
+    let slots = (bytes / 64).min(room / 3).min(128);
     let rows = (room - 3 * slots) / 2;
     let pointers = names + rows;
     let owner = pointers + rows;

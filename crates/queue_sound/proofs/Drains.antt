@@ -2,14 +2,14 @@
 use mathlib.Core.Path.{◌≡◌, refl, sym, ap, ◌∙◌}
 use mathlib.Core.Bool.{Bool, true, false, not, ◌&&◌}
 use mathlib.Core.List.{List, [], ◌∷◌}
-use Prim.Native.Nat.{ℕ, ◌+◌, ◌<◌, ◌≤◌, min}
+use Prim.Native.Nat.{ℕ, ◌<◌, ◌≤◌}
 use lib.Dec.{eqb, leb, ltb}
 use lib.ListN.{length, take, drop, get_or}
 use borrow.Author.Tests.{eqb-true, lt-ltb, le-leb}
 use Rattle.base.specs.Lists.{all, has, once}
 use Rattle.base.specs.Laws.Tests.{and_none, by_test}
 use Rattle.base.specs.Laws.Keep.{all_none, all_same}
-use Rattle.base.specs.Laws.Scans.{left_cons, left_end}
+use Rattle.std.proofs.Common.{drop-cons, drop_of_length-le}
 use Rattle.slots.specs.declared.Used.{Used}
 use Rattle.slots.specs.Bits.{bit, number, used_at, cleared}
 use Rattle.slots.specs.Told.{Typed}
@@ -66,13 +66,10 @@ pub drained : (u : Used) → Typed u → (n : ℕ) (l : List ℕ) → n ≤ leng
 drained u y n l h = rw (le-leb n (length l) h) (drains_is u y (take n l))
 
 -- what is left of the slots drains what is left of the bits
-module _ (l : List ℕ) (n i : ℕ) (u : Used) where
-  pub drain_end : min n (length l) ≤ i → drains u (drop i (take n l)) ≡ true
-  drain_end h = rw (left_end l n i h)
+module _ (l : List ℕ) (i : ℕ) (u : Used) where
+  pub drain_end : length l ≤ i → drains u (drop i l) ≡ true
+  drain_end h = rw (drop_of_length-le l {i = i} h)
 
-  module _ (h : i < n) (b : i < length l) where
-    pub drain_hit : used_at u (get_or l i 0) ≡ true → drains (cleared u (get_or l i 0)) (drop (i + 1) (take n l)) ≡ drains u (drop i (take n l))
-    drain_hit t = rw (left_cons l n i 0 h b, t)
-
-    pub drain_miss : used_at u (get_or l i 0) ≡ false → drains u (drop i (take n l)) ≡ false
-    drain_miss t = rw (left_cons l n i 0 h b, t)
+  module _ (h : i < length l) where
+    pub drain_miss : used_at u (get_or l i 0) ≡ false → drains u (drop i l) ≡ false
+    drain_miss t = rw (drop-cons l i 0, t)

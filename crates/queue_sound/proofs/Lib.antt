@@ -1,3 +1,4 @@
+pub mod Both
 pub mod Drains
 pub mod Pointers
 pub mod Whole

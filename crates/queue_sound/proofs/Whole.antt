@@ -50,23 +50,19 @@ module _ (l : Columns) (w : List ℕ) (bytes : ℕ) (h : Laid (length w) l) (z :
   abbrev part : ℕ → ℕ → List ℕ
   part from to = take (to - from) (drop from w)
 
-  pub answered : (count n : ℕ) (u : Used) (a b r : Bool)
-      → count ≡ get_or w 0 0
-      → u ≡ (seen l w).used
-      → n ≡ held u
-      → a ≡ rows_sound count (part l.names l.pointers) (part l.pointers l.owner) (take n (part l.owner l.slot))
-      → b ≡ entries_sound u n (part l.slot l.len) (part l.len (l.len + l.slots))
-      → r ≡ (a && b)
-      → r ≡ sound_q (view_of w bytes)
-  answered count n u a b r hc hu hn ha hb hr =
+  pub answered : (count n : ℕ) (u : Used) → count ≡ get_or w 0 0 → u ≡ (seen l w).used → n ≡ held u
+      → (rows_sound count (part l.names l.pointers) (part l.pointers l.owner) (take n (part l.owner l.slot))
+      && entries_sound u n (part l.slot l.len) (part l.len (l.len + l.slots)))
+      ≡ sound_q (view_of w bytes)
+  answered count n u hc hu hn =
       let q = seen l w in
       let long : length q.len ≡ slots_in q = (len_lies l w h).long ∙ sym (slot_lies l w h).long in
-      let rows : a ≡ rows_sound q.count q.names q.pointers (owners q) =
+      let rows : rows_sound count (part l.names l.pointers) (part l.pointers l.owner) (take n (part l.owner l.slot)) ≡ rows_sound q.count q.names q.pointers (owners q) =
       cc (
         (names_lies l w h).whole l.pointers h.pointers,
         (pointers_lies l w h).whole l.owner h.owner,
         (owner_lies l w h).whole l.slot h.slot,
       ) in
-      let held_in : b ≡ entries_sound q.used (entries q) q.slot q.len =
+      let held_in : entries_sound u n (part l.slot l.len) (part l.len (l.len + l.slots)) ≡ entries_sound q.used (entries q) q.slot q.len =
       cc ((slot_lies l w h).whole l.len h.len, (len_lies l w h).whole (l.len + l.slots) refl) in
-      hr ∙ ap₂ (λ (x y : Bool). x && y) rows held_in ∙ whole q long ∙ ap sound_q (sym (sees l w (length w) bytes refl z))
+      ap₂ (λ (x y : Bool). x && y) rows held_in ∙ whole q long ∙ ap sound_q (sym (sees l w (length w) bytes refl z))

@@ -4,8 +4,7 @@ ghost use Rattle.base.specs.Lists.{all, once};
 ghost use Rattle.slots.specs.Bits.{used_at};
 ghost use Rattle.queue_sound.specs.Parts.{filled, entries_sound};
 
-use crate::both;
-use base::sets::least;
+use base::sets::front;
 use slots::Used;
 
 // No more entries than slots, no slot twice, and each marked: each one's bit is set, and is cleared.
@@ -16,14 +15,12 @@ fn slots_sound(slot: &[u64], n: usize, u: Used) -> bool
         return false;
     }
     let mut v = u;
-    let mut i: usize = 0;
-    while i < n {
-        let s = slot[i] as usize;
+    for s in front(slot, n) {
+        let s = *s as usize;
         if !slots::is_used(v, s) {
             return false;
         }
         v = slots::clear(v, s);
-        i += 1;
     }
     true
 }
@@ -32,36 +29,19 @@ fn slots_sound(slot: &[u64], n: usize, u: Used) -> bool
 fn is_filled(len: &[u64], s: usize) -> bool
     ensures { result ≡ filled len.now s }
 {
-    if s >= len.len() {
-        return false;
-    }
-    let m = len[s];
-    if m < 1 {
-        return false;
-    }
-    m <= 64
+    s < len.len() && (1..=64).contains(&len[s])
 }
 
 // Each entry's slot is lent and holds 1 to 64 bytes.
-fn lengths_sound<'a>(slot: &'a [u64], n: usize, len: &'a [u64]) -> bool
+fn lengths_sound(slot: &[u64], n: usize, len: &[u64]) -> bool
     ensures { result ≡ all (filled len.now) (take n slot.now) }
 {
-    let m = least(n, slot.len());
-    let mut i: usize = 0;
-    while i < m {
-        if !is_filled(len, slot[i] as usize) {
-            return false;
-        }
-        i += 1;
-    }
-    true
+    front(slot, n).iter().all(|s| is_filled(len, *s as usize))
 }
 
 // Slots and lengths are sound.
-pub(crate) fn entries_sound<'a>(slot: &'a [u64], len: &'a [u64], n: usize, u: Used) -> bool
+pub(crate) fn entries_sound(slot: &[u64], len: &[u64], n: usize, u: Used) -> bool
     ensures { result ≡ entries_sound u n slot.now len.now }
 {
-    let apart = slots_sound(slot, n, u);
-    let filled = lengths_sound(slot, n, len);
-    both(apart, filled)
+    slots_sound(slot, n, u) && lengths_sound(slot, n, len)
 }

@@ -5,47 +5,36 @@
 mod entries;
 mod rows;
 
-ghost use Rattle.std.specs.Prelude.{◌≡◌, ◌&&◌, length};
+ghost use Rattle.std.specs.Prelude.{◌≡◌, length};
 ghost use Rattle.queue_rows.specs.Table.{view_of};
 ghost use Rattle.queue_rows.specs.Sound.{sound_q};
 
 use crate::entries::entries_sound;
 use crate::rows::rows_sound;
-use queue_rows::layout;
-use slots::Used;
+use queue_rows::{Columns, layout, used};
 use words::cells::word_at;
 
 // Each column is lent up to where the next begins. An entry is counted for each slot in use.
 pub fn sound(queues: &[u64], items: &[u8]) -> bool
     ensures exact { result ≡ sound_q (view_of queues.now (length items.now)) }
 {
-    let l = layout(queues.len(), items.len());
-    let names = l.names;
-    let pointers = l.pointers;
-    let owner = l.owner;
-    let slot = l.slot;
-    let len = l.len;
-    let end = l.len + l.slots;
+    let Columns {
+        names,
+        pointers,
+        owner,
+        slot,
+        len,
+        slots,
+        ..
+    } = layout(queues.len(), items.len());
     let count = word_at(queues, 0) as usize;
-    let u = Used {
-        lo: word_at(queues, 1),
-        hi: word_at(queues, 2),
-    };
+    let u = used(queues);
     let n = slots::count(u);
-    let rows = rows_sound(
+    rows_sound(
         &queues[names..pointers],
         &queues[pointers..owner],
         count,
         &queues[owner..slot],
         n,
-    );
-    let entries = entries_sound(&queues[slot..len], &queues[len..end], n, u);
-    both(rows, entries)
-}
-
-// Whether both hold.
-pub(crate) fn both(a: bool, b: bool) -> bool
-    ensures { result ≡ (a && b) }
-{
-    if a { b } else { false }
+    ) && entries_sound(&queues[slot..len], &queues[len..len + slots], n, u)
 }

@@ -1,132 +1,102 @@
--- The cases of `append_to`, each from the tests that lead there; and what the row that a search gives says of the name. Assumes nothing.
-use mathlib.Core.Path.{◌≡◌, refl, sym, ap, ap₂, ◌∙◌, subst}
-use mathlib.Core.Bool.{true, false, not, ◌&&◌, ◌||◌}
-use mathlib.Core.List.{List, [], ◌∷◌}
-use Prim.Native.Nat.{ℕ, ◌+◌, ◌≤◌, ◌<◌, min}
-use native.Mathlib.Omega.{arith}
-use lib.Dec.{eqb, leb, ltb}
-use lib.ListN.{length, take, set, length-take}
-use borrow.Author.Tests.{eq-eqb, ne_eqb, le-leb, lt-leb, leb-true, leb-false, lt-ltb, le-ltb, ltb-false}
-use Rattle.base.specs.Lists.{has, copies, first_at}
+-- The cases of `append_to`, as the code comes to them; and what the row that the checks give says of the name. Assumes nothing.
+use Rattle.std.specs.Prelude.{◌≡◌, refl, ℕ, ◌+◌, ◌≤◌, ◌<◌, true, false, ◌&&◌, List, length, set, position, eqb, leb, ltb, Some, None, Ok, Err}
+use Rattle.std.proofs.Common.{sym, ap, ap₂, ◌∙◌, subst, arith, length-take, ne_eqb, ltb-true, ltb-false, lt-ltb, le-ltb, le-leb}
+use Rattle.std.proofs.lemmas.Bool.{lt-leb}
+use Rattle.base.specs.Lists.{has, copies}
 use Rattle.base.specs.Bytes.{blank}
 use Rattle.base.specs.Laws.Tests.{by_test, pick_elim}
-use Rattle.base.specs.Laws.Keep.{first_at_none, first_at_lt}
+use Rattle.base.specs.Laws.Keep.{first_at_lt}
 use Rattle.slots.specs.Bits.{free_for, marked}
 use Rattle.slots.specs.declared.Used.{Used}
-use Rattle.slots.specs.declared.Slot.TheVariants.{At, Full}
-use Rattle.model.specs.Limits.{some}
 use Rattle.queues.specs.declared.Queues.{Queues}
-use Rattle.base.specs.Laws.Tests.{or_false_l, or_false_r}
-use Rattle.queues.specs.declared.append.Appending.{Appending}
-use Rattle.queues.specs.declared.append.Way.TheVariants.{Row, Fault}
-use Rattle.queues.specs.declared.append.Appending.TheVariants.{Stored, NoSpace, WrongLength, Invalid}
+use Rattle.queues.specs.declared.append.AppendError.{AppendError}
+use Rattle.queues.specs.declared.append.AppendError.TheVariants.{NoSpace}
 use Rattle.queues.specs.Table.{names_of, entries, owners, row_of}
-use Rattle.queues.specs.Append.{grown, with_queue, put, stored, answer, in_slot, append_to, way_of}
-use Rattle.queues.specs.Laws.Typed.{Typed, names_count}
-
--- ---- the row of a name
-
-module _ (q : Queues) (t : Typed q) (n row : ℕ) (found : row ≡ row_of q n) where
-  -- none has it: the number of rows
-  row_none : has n (names_of q) ≡ false → row ≡ min q.count 16
-  row_none h = found ∙ first_at_none (λ m. eqb m n) (names_of q) h ∙ names_count q t
-
-  row_some : has n (names_of q) ≡ true → row < min q.count 16
-  row_some h = omega (arith, first_at_lt (λ m. eqb m n) (names_of q) h, names_count q t)
-
-  -- past the last row there is none, and no place for one
-  pub row_full : 16 ≤ row → (not (has n (names_of q)) && leb 16 q.count) ≡ true
-  row_full h =
-      by_test (has n (names_of q)) (λ e. absurd (omega (arith, row_some e)))
-      (λ e. rw e (le-leb 16 q.count (omega (arith, row_none e))))
-
-  module _ (below : row < 16) where
-    pub row_room : (not (has n (names_of q)) && leb 16 q.count) ≡ false
-    row_room =
-        by_test (has n (names_of q)) (λ e. rw e) (λ e. rw e (lt-leb 16 q.count (omega (arith, row_none e))))
-
-    pub row_known : row < q.count → q ≡ with_queue q n
-    row_known h =
-        by_test (has n (names_of q)) (λ e. rw e) (λ e. absurd (omega (arith, row_none e)))
-
-    -- the struct with that row is the one with one row more
-    pub row_new : q.count ≤ row → record {
-      count = row + 1;
-      names = set q.names row n;
-      pointers = set q.pointers row 0;
-      used = q.used;
-      owner = q.owner;
-      slot = q.slot;
-      len = q.len;
-    } ≡ with_queue q n
-    unfolding grown
-    row_new h =
-        by_test (has n (names_of q)) (λ e. absurd (omega (arith, row_some e)))
-        (λ e. let same : row ≡ q.count = omega (arith, row_none e) in rw (e, same))
+use Rattle.queues.specs.Append.{grown, with_queue, put, stored, answer, in_slot, append_to, checked}
+use Rattle.queues.proofs.Laws.Append.{item_wrong, no_row}
+use Rattle.queues.proofs.Rows.{row_some, row_none}
 
 -- ---- the checks
 
--- where none of them holds
+module _ (q : Queues) (n size : ℕ) (d : n ≡ blank 8 → ⊥) (f : (leb 1 size && leb size 64) ≡ true) where
+  pub checked_known : (row : ℕ) → position (λ m. eqb m n) (names_of q) ≡ Some row → Ok row ≡ checked q n size
+  unfolding checked
+  checked_known row h =
+      let g = row_some q n row h in
+      rw (ne_eqb n (blank 8) d, f, g.0) (ap (λ (r : ℕ). Ok r) g.1)
+
+  module _ (h : position (λ m. eqb m n) (names_of q) ≡ None) where
+    pub checked_new : q.count < 16 → Ok q.count ≡ checked q n size
+    unfolding checked
+    checked_new g = rw (ne_eqb n (blank 8) d, f, row_none q n h, lt-ltb q.count 16 g)
+
+    pub checked_full : 16 ≤ q.count → Err NoSpace ≡ checked q n size
+    unfolding checked
+    checked_full g = rw (ne_eqb n (blank 8) d, f, row_none q n h, le-ltb q.count 16 g)
+
+-- where they hold
 pub record Clear (q : Queues) (n size row : ℕ) : Type 0 where
   pub named : eqb n (blank 8) ≡ false
-  pub low : 1 ≤ size
-  pub high : size ≤ 64
-  pub found : row ≡ row_of q n
+  pub fits : (leb 1 size && leb size 64) ≡ true
+  pub room : no_row q n ≡ false
+  pub old : has n (names_of q) ≡ true → row < q.count
+  pub new : has n (names_of q) ≡ false → row ≡ q.count
   pub below : row < 16
 
-never : {o : Appending} {r : ℕ} → Fault o ≡ Row r → ⊥
-never e = let z : ◌≡◌ {A = ℕ} 0 1 = cc in omega arith
-
-pub way_row : (q : Queues) (n size row : ℕ) → way_of n size (names_of q) ≡ Row row → Clear q n size row
-unfolding way_of
-way_row q n size row e =
-    by_test (eqb n (blank 8)) (λ x. absurd (never (rw x at e)))
+pub checked_clear : (q : Queues) (n size row : ℕ) → length q.names ≡ 16 → checked q n size ≡ Ok row → Clear q n size row
+unfolding checked
+checked_clear q n size row l e =
+    by_test (eqb n (blank 8)) (λ x. absurd (let g = rw x at e in cc))
     (λ x.
-    by_test (ltb size 1 || ltb 64 size) (λ y. absurd (never (rw (x, y) at e)))
+    by_test (leb 1 size && leb size 64)
     (λ y.
-    by_test (leb 16 (row_of q n)) (λ z. absurd (never (rw (x, y, z) at e)))
+    by_test (has n (names_of q))
     (λ z.
-    let same : Row (row_of q n) ≡ Row row = rw (x, y, z) at e in
-    let at : row ≡ row_of q n = cc in
+    let g = rw (x, y, z) at e in
+    let is : row ≡ row_of q n = cc in
+    let lt = first_at_lt (λ m. eqb m n) (names_of q) z in
     record {
       named = x;
-      low = ltb-false size 1 (or_false_l (ltb size 1) (ltb 64 size) y);
-      high = ltb-false 64 size (or_false_r (ltb size 1) (ltb 64 size) y);
-      found = at;
-      below = omega (arith, leb-false 16 (row_of q n) z);
-    })))
+      fits = y;
+      room = rw z;
+      old = λ _. omega (arith, lt, length-take q.count q.names);
+      new = λ w. absurd (let k = sym z ∙ w in cc);
+      below = omega (arith, lt, length-take q.count q.names);
+    })
+    (λ z.
+    by_test (ltb q.count 16)
+    (λ w.
+    let g = rw (x, y, z, w) at e in
+    let is : row ≡ q.count = cc in
+    let lt = ltb-true q.count 16 w in
+    record {
+      named = x;
+      fits = y;
+      room = rw (z, lt-leb 16 q.count lt);
+      old = λ v. absurd (let k = sym z ∙ v in cc);
+      new = λ _. is;
+      below = omega arith;
+    })
+    (λ w. absurd (let g = rw (x, y, z, w) at e in cc))))
+    (λ y. absurd (let g = rw (x, y) at e in cc)))
 
--- what they give, by the tests that lead there
-module _ (n size : ℕ) (ns : List ℕ) where
-  pub way_invalid : n ≡ blank 8 → Fault Invalid ≡ way_of n size ns
-  unfolding way_of
-  way_invalid e = rw (eq-eqb n (blank 8) e)
+-- ---- the struct in which the name has a row
 
-  module _ (d : n ≡ blank 8 → ⊥) where
-    pub way_short : size < 1 → Fault WrongLength ≡ way_of n size ns
-    unfolding way_of
-    way_short h = rw (ne_eqb n (blank 8) d, lt-ltb size 1 h)
+module _ (q : Queues) (n size row : ℕ) (c : Clear q n size row) where
+  pub row_old : row < q.count → q ≡ with_queue q n
+  row_old h = by_test (has n (names_of q)) (λ e. rw e) (λ e. absurd (omega (arith, c.new e)))
 
-    module _ (low : 1 ≤ size) where
-      pub way_long : 64 < size → Fault WrongLength ≡ way_of n size ns
-      unfolding way_of
-      way_long h = rw (ne_eqb n (blank 8) d, le-ltb size 1 low, lt-ltb 64 size h)
-
-      module _ (high : size ≤ 64) (row : ℕ) (e : row ≡ first_at (λ m. eqb m n) ns) where
-        pub way_full : 16 ≤ row → Fault NoSpace ≡ way_of n size ns
-        unfolding way_of
-        way_full h = rw (ne_eqb n (blank 8) d, le-ltb size 1 low, le-ltb 64 size high, ← e, le-leb 16 row h)
-
-        pub way_free : row < 16 → Row row ≡ way_of n size ns
-        unfolding way_of
-        way_free h = rw (ne_eqb n (blank 8) d, le-ltb size 1 low, le-ltb 64 size high, ← e, lt-leb 16 row h)
-
--- too short or too long, as the model asks it
-length_test : (item : List ℕ) → (not (some item) || ltb 64 (length item)) ≡ (ltb (length item) 1 || ltb 64 (length item))
-length_test item =
-    by_test (some item) (λ e. rw (e, le-ltb (length item) 1 (leb-true 1 (length item) e))) (λ e. rw (e, lt-ltb (length item) 1 (leb-false 1 (length item) e)))
-
--- ---- a queue that is made leaves the entries as they are
+  pub row_new : q.count ≤ row → record {
+    count = row + 1;
+    names = set q.names row n;
+    pointers = set q.pointers row 0;
+    used = q.used;
+    owner = q.owner;
+    slot = q.slot;
+    len = q.len;
+  } ≡ with_queue q n
+  unfolding grown
+  row_new h = by_test (has n (names_of q)) (λ e. absurd (omega (arith, c.old e))) (λ e. let same = c.new e in rw (e, same))
 
 module _ (q : Queues) (n : ℕ) (x : Queues) (made : x ≡ with_queue q n) where
   either : (P : Queues → Type 0) → P q → P (grown q n) → P x
@@ -136,51 +106,43 @@ module _ (q : Queues) (n : ℕ) (x : Queues) (made : x ≡ with_queue q n) where
   unfolding grown
   made_used = either (λ (y : Queues). y.used ≡ q.used) refl refl
 
-  pub made_owner : length x.owner ≡ length q.owner
-  unfolding grown
-  made_owner = either (λ (y : Queues). length y.owner ≡ length q.owner) refl refl
-
 -- ---- the cases
 
-module _ (q : Queues) (t : Typed q) (b : List ℕ) (may n : ℕ) (item : List ℕ) where
-  -- a fault that the checks give
-  pub append_fault : (o : Appending) → way_of n (length item) (names_of q) ≡ Fault o → answer q b o ≡ append_to q b may n item
-  unfolding way_of append_to
+module _ (q : Queues) (b : List ℕ) (may n : ℕ) (item : List ℕ) where
+  -- an error that the checks give
+  pub append_fault : (o : AppendError) → checked q n (length item) ≡ Err o → answer q b (Err o) ≡ append_to q b may n item
+  unfolding checked append_to
   append_fault o e =
-      rw (length_test item)
-      (by_test (eqb n (blank 8)) (λ x. let f = rw x at e in rw x (cc))
+      by_test (eqb n (blank 8)) (λ x. let f = rw x at e in rw x (cc))
       (λ x.
-      by_test (ltb (length item) 1 || ltb 64 (length item)) (λ y. let f = rw (x, y) at e in rw (x, y) (cc))
+      by_test (leb 1 (length item) && leb (length item) 64)
       (λ y.
-      by_test (leb 16 (row_of q n))
-      (λ z. let f = rw (x, y, z) at e in rw (x, y, row_full q t n (row_of q n) refl (leb-true 16 (row_of q n) z)) (cc))
-      (λ z. absurd (never (sym (rw (x, y, z) at e)))))))
+      by_test (has n (names_of q)) (λ z. absurd (let f = rw (x, y, z) at e in cc))
+      (λ z.
+      by_test (ltb q.count 16) (λ w. absurd (let f = rw (x, y, z, w) at e in cc))
+      (λ w. let f = rw (x, y, z, w) at e in rw (x, item_wrong item true y, z, le-leb 16 q.count (ltb-false q.count 16 w)) (cc))))
+      (λ y. let f = rw (x, y) at e in rw (x, item_wrong item false y) (cc)))
 
-  -- where none holds: what is done in the struct x, in which the name has a row
+  -- where there is none: what is done in the struct x, in which the name has a row
   module _ (row : ℕ) (c : Clear q n (length item) row) (x : Queues) (made : x ≡ with_queue q n) where
     append_slot : in_slot x b n item (free_for may x.used) ≡ append_to q b may n item
     unfolding append_to
     append_slot =
         ap₂ (λ (y : Queues) (u : Used). in_slot y b n item (free_for may u)) made (made_used q n x made)
-        ∙ rw (
-          c.named,
-          le-leb 1 (length item) c.low,
-          le-ltb 64 (length item) c.high,
-          row_room q t n row c.found c.below,
-        )
+        ∙ rw (c.named, item_wrong item true c.fits, c.room)
 
-    pub append_no_slot : free_for may x.used ≡ Full → answer x b NoSpace ≡ append_to q b may n item
+    pub append_no_slot : free_for may x.used ≡ None → answer x b (Err NoSpace) ≡ append_to q b may n item
     append_no_slot z = sym (ap (in_slot x b n item) z) ∙ append_slot
 
-    pub append_stored : (k : ℕ) → free_for may x.used ≡ At k
-        → answer (put x n (length item) k) (stored b item k) (Stored (copies n (owners x) + 1)) ≡ append_to q b may n item
+    pub append_stored : (k : ℕ) → free_for may x.used ≡ Some k
+        → answer (put x n (length item) k) (stored b item k) (Ok (copies n (owners x) + 1)) ≡ append_to q b may n item
     append_stored k z = sym (ap (in_slot x b n item) z) ∙ append_slot
 
 -- ---- the stores
 
--- the stores of an item, one by one, are `put`
-pub stores_put : (x : Queues) (n size k e c : ℕ) (u : Used) → e ≡ entries x → c ≡ copies n (take e x.owner) → u ≡ marked x.used k
-    → (b : List ℕ) → answer (record {
+-- one by one, they are `put`
+pub stores_put : (x : Queues) (n size k e : ℕ) (u : Used) → e ≡ entries x → u ≡ marked x.used k
+    → record {
       count = x.count;
       names = x.names;
       pointers = x.pointers;
@@ -188,13 +150,9 @@ pub stores_put : (x : Queues) (n size k e c : ℕ) (u : Used) → e ≡ entries 
       owner = set x.owner e n;
       slot = set x.slot e k;
       len = set x.len k size;
-    }) b (Stored (c + 1)) ≡ answer (put x n size k) b (Stored (copies n (owners x) + 1))
+    } ≡ put x n size k
 unfolding put
-stores_put x n size k e c u he hc hu b = cc
+stores_put x n size k e u he hu = cc
 
-pub copies_le : (n : ℕ) (l : List ℕ) → copies n l ≤ length l
-copies_le n [] = omega arith
-copies_le n (m ∷ l) = by_test (eqb m n) (λ e. rw e (omega (arith, copies_le n l))) (λ e. rw e (omega (arith, copies_le n l)))
-
-pub few_copies : (n e : ℕ) (l : List ℕ) → copies n (take e l) ≤ length l
-few_copies n e l = omega (arith, copies_le n (take e l), length-take e l)
+-- for the search of `Queues::checked`
+pub ruleset checks = (checked_known, checked_new, checked_full)

@@ -1,10 +1,12 @@
-pub mod Scans
-pub mod AppendCases
+pub mod Rows
 pub mod SweepLaws
 pub mod ShutLaws
-pub mod DeleteExact
+pub mod AppendCases
+pub mod RewriteCases
+pub mod ReadCases
+pub mod DeleteCases
 pub mod SoundLaws
-pub mod Small
 pub mod Told
 pub mod Laws
 pub mod Examples
+pub mod Counted

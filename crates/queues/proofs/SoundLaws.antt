@@ -2,22 +2,21 @@
 use mathlib.Core.Path.{◌≡◌, refl, sym, ap, ◌∙◌}
 use mathlib.Core.Bool.{Bool, true, false, not, ◌&&◌}
 use mathlib.Core.List.{List, [], ◌∷◌}
-use Prim.Native.Nat.{ℕ, ◌+◌, ◌<◌, ◌≤◌, min}
-use native.Mathlib.Omega.{arith}
+use Prim.Native.Nat.{ℕ, ◌+◌, ◌<◌, ◌≤◌}
+use Rattle.std.proofs.Common.{add-one, ap₂, drop_of_length-le, drop-cons}
 use lib.Dec.{eqb, leb, ltb}
-use lib.ListN.{length, take, drop, get_or}
-use borrow.Author.Tests.{eqb-true, lt-ltb, leb-true, leb-false}
-use Rattle.base.specs.Lists.{all, has, once, within, copies}
+use lib.ListN.{length, drop, get_or}
+use borrow.Author.Tests.{eqb-true, lt-ltb}
+use Rattle.base.specs.Lists.{all, has, once, within}
 use Rattle.base.specs.Bytes.{blank}
 use Rattle.base.specs.Laws.Tests.{and_none, by_test}
 use Rattle.base.specs.Laws.Keep.{all_none, all_same}
-use Rattle.base.specs.Laws.Scans.{left_cons, left_end}
 use Rattle.slots.specs.declared.Used.{Used}
 use Rattle.slots.specs.Bits.{bit, number, used_at, cleared}
 use Rattle.slots.specs.Told.{Typed}
 use Rattle.slots.proofs.Laws.Slots.{used_bit, bit_slot, cleared_bit, cleared_typed}
 use Rattle.queues.specs.declared.Queues.{Queues}
-use Rattle.queues.specs.Table.{names_of, pointers_of, entries, owners, places}
+use Rattle.queues.specs.Table.{names_of, pointers_of, owners, places}
 use Rattle.queues.specs.Sound.{pointed, length_in, sound_q}
 
 -- ---- tests
@@ -36,14 +35,6 @@ and_move true true c = refl
 and_move true false c = refl
 and_move false true c = refl
 and_move false false c = refl
-
--- the answer that the parts make
-pub joined : (n w p o u l : Bool) → (n && w && p && (o && u) && l) ≡ (n && w && p && o && u && l)
-joined n w p o u l = ap (λ (x : Bool). x && l) (and_assoc (n && w && p) o u)
-
--- the slot holds 1 to 64 bytes
-abbrev pub fits : List ℕ → ℕ → Bool
-fits len s = leb 1 (get_or len s 0) && leb (get_or len s 0) 64
 
 -- ---- no slot twice and each marked: each one's bit is set, and is cleared
 
@@ -78,62 +69,42 @@ drains_is u y (s ∷ ss) =
     (λ e. rw e (and_none (not (has s ss) && once ss)))
 
 -- what is left of the slots drains what is left of the bits
-module _ (l : List ℕ) (n i s : ℕ) (u : Used) where
-  pub drain_end : min n (length l) ≤ i → drains u (drop i (take n l)) ≡ true
-  drain_end h = rw (left_end l n i h)
+module _ (l : List ℕ) (i s : ℕ) (u : Used) where
+  pub drain_end : length l ≤ i → drains u (drop i l) ≡ true
+  drain_end h = let e : drop i l ≡ [] = drop_of_length-le l h in rw e
 
-  module _ (h : i < n) (b : i < length l) (is : s ≡ get_or l i 0) where
-    pub drain_hit : used_at u s ≡ true → drains (cleared u s) (drop (i + 1) (take n l)) ≡ drains u (drop i (take n l))
-    drain_hit t = rw (left_cons l n i 0 h b, ← is, t)
+  module _ (h : i < length l) (is : s ≡ get_or l i 0) where
+    opened : drop i l ≡ s ∷ drop (i + 1) l
+    opened = drop-cons l i 0 h ∙ ap₂ (λ (x j : ℕ). x ∷ drop j l) (sym is) (sym (add-one i))
 
-    pub drain_miss : used_at u s ≡ false → drains u (drop i (take n l)) ≡ false
-    drain_miss t = rw (left_cons l n i 0 h b, ← is, t)
+    pub drain_hit : used_at u s ≡ true → drains (cleared u s) (drop (i + 1) l) ≡ drains u (drop i l)
+    drain_hit t = rw (opened, t)
 
--- ---- the pointers
+    pub drain_miss : used_at u s ≡ false → drains u (drop i l) ≡ false
+    drain_miss t = rw (opened, t)
 
-pointed_nil : (os ns : List ℕ) → pointed os ns [] ≡ true
-pointed_nil os [] = refl
-pointed_nil os (n ∷ ns) = refl
+-- ---- the whole: each part is asked where the parts before it hold
 
-module _ (os ns ps : List ℕ) (n i : ℕ) where
-  pub pointed_end : min n (min (length ns) (length ps)) ≤ i → pointed os (drop i (take n ns)) (drop i (take n ps)) ≡ true
-  pointed_end h =
-      by_test (leb (min n (length ns)) i) (λ t. rw (left_end ns n i (leb-true (min n (length ns)) i t)))
-      (λ t.
-      let k = leb-false (min n (length ns)) i t in
-      rw (left_end ps n i (omega arith)) (pointed_nil os (drop i (take n ns))))
+module _ (a b r x : Bool) (is : x ≡ a) where
+  pub and_then : x ≡ true → r ≡ b → r ≡ (a && b)
+  and_then h e = rw (sym is ∙ h) e
 
-  module _ (h : i < n) (a : i < length ns) (b : i < length ps) where
-    pub pointed_hit : leb (get_or ps i 0) (copies (get_or ns i 0) os) ≡ true
-        → pointed os (drop (i + 1) (take n ns)) (drop (i + 1) (take n ps)) ≡ pointed os (drop i (take n ns)) (drop i (take n ps))
-    pointed_hit t = rw (left_cons ns n i 0 h a, left_cons ps n i 0 h b, t)
-
-    pub pointed_miss : leb (get_or ps i 0) (copies (get_or ns i 0) os) ≡ false → pointed os (drop i (take n ns)) (drop i (take n ps)) ≡ false
-    pointed_miss t = rw (left_cons ns n i 0 h a, left_cons ps n i 0 h b, t)
-
--- ---- the whole
+  pub and_else : x ≡ false → r ≡ x → r ≡ (a && b)
+  and_else h e = rw (sym is ∙ h) (e ∙ h)
 
 module _ (q : Queues) where
-  abbrev named : Bool
-  named = leb q.count 16 && once (names_of q) && not (has (blank 8) (names_of q))
+  abbrev pub part1 : Bool
+  part1 = leb q.count 16 && once (names_of q) && not (has (blank 8) (names_of q))
 
-  -- the answer, over the first n entries
-  abbrev answer : ℕ → Bool
-  answer n =
-      named && within (take n q.owner) (names_of q) && pointed (take n q.owner) (names_of q) (pointers_of q)
-      && (once (take n q.slot) && all (used_at q.used) (take n q.slot))
-      && all (length_in q) (take n q.slot)
+  abbrev pub part2 : Bool
+  part2 = part1 && within (owners q) (names_of q)
 
-  pub whole : (n : ℕ) → n ≡ entries q → (a b c d e r : Bool) → r ≡ (a && b && c && d && e)
-      → a ≡ (leb q.count 16 && once (names_of q) && not (has (blank 8) (names_of q)))
-      → b ≡ within (take n q.owner) (names_of q)
-      → c ≡ pointed (take n q.owner) (names_of q) (pointers_of q)
-      → d ≡ (once (take n q.slot) && all (used_at q.used) (take n q.slot))
-      → e ≡ all (length_in q) (take n q.slot)
-      → r ≡ sound_q q
+  abbrev pub part3 : Bool
+  part3 = part2 && pointed (owners q) (names_of q) (pointers_of q)
+
+  abbrev pub part4 : Bool
+  part4 = part3 && (once (places q) && all (used_at q.used) (places q))
+
+  pub whole : (part4 && all (length_in q) (places q)) ≡ sound_q q
   unfolding sound_q
-  whole n is a b c d e r h ha hb hc hd he =
-      let one : r ≡ answer n = h ∙ rw (ha, hb, hc, hd, he) in
-      one ∙ ap answer is
-      ∙ joined named (within (owners q) (names_of q)) (pointed (owners q) (names_of q) (pointers_of q)) (once (places q)) (all (used_at q.used) (places q))
-      (all (length_in q) (places q))
+  whole = ap (λ (x : Bool). x && all (length_in q) (places q)) (and_assoc part3 (once (places q)) (all (used_at q.used) (places q)))

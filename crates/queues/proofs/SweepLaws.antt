@@ -18,11 +18,10 @@ use Rattle.base.specs.Laws.Over.{over_set, over_read}
 use Rattle.slots.specs.Bits.{cleared}
 use Rattle.slots.specs.declared.Used.{Used}
 use Rattle.queues.specs.declared.Queues.{Queues}
-use Rattle.queues.specs.declared.delete.Deleting.TheVariants.{Freed}
 use Rattle.queues.specs.Table.{slots_of, entries, owners}
 use Rattle.queues.specs.Laws.From.{slots_snoc}
 use Rattle.queues.specs.Laws.DeleteLists.{others_long, but_long}
-use Rattle.queues.specs.Delete.{others_than, slots_but, clear_all, emptied, swept}
+use Rattle.queues.specs.Delete.{others_than, slots_but, clear_all, emptied}
 
 -- ---- one entry more
 
@@ -58,11 +57,10 @@ unfolding swept_to
 swept_none q n = refl
 
 pub swept_all : (q : Queues) (n j k : ℕ) (t : Queues) → entries q ≤ length q.owner → t ≡ swept_to q n (entries q)
-    → j ≡ length (others_than n (owners q)) → k ≡ entries q - j → record { queues = t; outcome = Freed k } ≡ swept q n
-unfolding swept_to emptied swept
+    → j ≡ length (others_than n (owners q)) → k ≡ entries q - j → (t ≡ emptied q n) × (k ≡ copies n (owners q))
+unfolding swept_to emptied
 swept_all q n j k t h e f g =
-    let c : k ≡ copies n (owners q) = omega (arith, others_long n (owners q), length-take-le (entries q) q.owner h) in
-    ap₂ (λ (x : Queues) (y : ℕ). record { queues = x; outcome = Freed y }) e c
+    (e, omega (arith, others_long n (owners q), length-take-le (entries q) q.owner h))
 
 -- ---- one turn
 

@@ -1,36 +1,30 @@
 -- Append, over the struct and the lent bytes, for every value of both.
-use Rattle.std.specs.Prelude.{ℕ, ◌+◌, ◌*◌, not, ◌&&◌, ◌||◌, List, eqb, leb, ltb, length, set}
+use Rattle.std.specs.Prelude.{ℕ, ◌+◌, ◌*◌, not, ◌&&◌, ◌||◌, List, eqb, leb, ltb, length, set, Option, Some, None, Result, Ok, Err}
 use Rattle.std.proofs.Math.Seq.{paste}
 use Rattle.base.specs.Choice.{pick}
-use Rattle.base.specs.Lists.{has, copies, first_at}
+use Rattle.base.specs.Lists.{has, copies}
 use Rattle.base.specs.Bytes.{blank}
 use Rattle.slots.specs.Bits.{free_for, marked}
-use Rattle.slots.specs.declared.Slot.{Slot}
-use Rattle.slots.specs.declared.Slot.TheVariants.{At, Full}
 use Rattle.model.specs.Limits.{some}
 use Rattle.model.specs.Plans.{normal, no_space, wrong_length, invalid_request}
 use Rattle.queues.specs.declared.Queues.{Queues}
 use Rattle.queues.specs.declared.append.Appended.{Appended}
-use Rattle.queues.specs.declared.append.Appending.{Appending}
-use Rattle.queues.specs.declared.append.Appending.TheVariants.{Stored, NoSpace, WrongLength, Invalid}
-use Rattle.queues.specs.declared.append.Way.{Way}
-use Rattle.queues.specs.declared.append.Way.TheVariants.{Row, Fault}
-use Rattle.queues.specs.Table.{names_of, entries, owners}
+use Rattle.queues.specs.declared.append.AppendError.{AppendError}
+use Rattle.queues.specs.declared.append.AppendError.TheVariants.{NoSpace, WrongLength, Invalid}
+use Rattle.queues.specs.Table.{names_of, entries, owners, row_of}
 
 -- ---- document 01's condition and number of each outcome
 
-abbrev pub condition_of : Appending → ℕ
-condition_of (Stored place) = normal
-condition_of NoSpace = no_space
-condition_of WrongLength = wrong_length
-condition_of Invalid = invalid_request
+abbrev pub condition_of : Result ℕ AppendError → ℕ
+condition_of (Ok place) = normal
+condition_of (Err NoSpace) = no_space
+condition_of (Err WrongLength) = wrong_length
+condition_of (Err Invalid) = invalid_request
 
 -- "new item's place"; "On any condition but 0 the number is 0"
-abbrev pub number_of : Appending → ℕ
-number_of (Stored place) = place
-number_of NoSpace = 0
-number_of WrongLength = 0
-number_of Invalid = 0
+abbrev pub number_of : Result ℕ AppendError → ℕ
+number_of (Ok place) = place
+number_of (Err e) = 0
 
 -- ---- what is done
 
@@ -74,31 +68,28 @@ pub record Lent : Type 0 where
 abbrev pub lent : Appended → List ℕ → Lent
 lent r b = record { appended = r; items = b }
 
-abbrev pub answer : Queues → List ℕ → Appending → Lent
+abbrev pub answer : Queues → List ℕ → Result ℕ AppendError → Lent
 answer q b o = lent (record { queues = q; outcome = o }) b
 
 -- an item of a queue that has a row goes into the slot that is free
-abbrev pub in_slot : Queues → List ℕ → ℕ → List ℕ → Slot → Lent
-in_slot q b n item Full = answer q b NoSpace
-in_slot q b n item (At k) = answer (put q n (length item) k) (stored b item k) (Stored (copies n (owners q) + 1))
+abbrev pub in_slot : Queues → List ℕ → ℕ → List ℕ → Option ℕ → Lent
+in_slot q b n item None = answer q b (Err NoSpace)
+in_slot q b n item (Some k) = answer (put q n (length item) k) (stored b item k) (Ok (copies n (owners q) + 1))
 
 -- "10 if blank, 4 length not 1..64, 1": the name is unknown and 16 queues exist, or the slots that the asker may fill are in use
 unfoldable pub append_to : Queues → List ℕ → ℕ → ℕ → List ℕ → Lent
 append_to q b may n item =
-    pick (eqb n (blank 8)) (answer q b Invalid)
-    (pick (not (some item) || ltb 64 (length item)) (answer q b WrongLength)
-    (pick (not (has n (names_of q)) && leb 16 q.count) (answer q b NoSpace)
+    pick (eqb n (blank 8)) (answer q b (Err Invalid))
+    (pick (not (some item) || ltb 64 (length item)) (answer q b (Err WrongLength))
+    (pick (not (has n (names_of q)) && leb 16 q.count) (answer q b (Err NoSpace))
     (in_slot (with_queue q n) b n item (free_for may q.used))))
 
 -- ---- of the helpers
 
--- the checks of the name and the length, and the row of the name among those that there are
-unfoldable pub way_of : ℕ → ℕ → List ℕ → Way
-way_of n size ns =
-    pick (eqb n (blank 8)) (Fault Invalid)
-    (pick (ltb size 1 || ltb 64 size) (Fault WrongLength)
-    (pick (leb 16 (first_at (λ m. eqb m n) ns)) (Fault NoSpace) (Row (first_at (λ m. eqb m n) ns))))
-
-abbrev pub fault_of : Way → Appending
-fault_of (Row r) = NoSpace
-fault_of (Fault o) = o
+-- the checks of the name and the length, and the row that the name has or is to have
+unfoldable pub checked : Queues → ℕ → ℕ → Result ℕ AppendError
+checked q n size =
+    pick (eqb n (blank 8)) (Err Invalid)
+    (pick (not (leb 1 size && leb size 64)) (Err WrongLength)
+    (pick (has n (names_of q)) (Ok (row_of q n))
+    (pick (ltb q.count 16) (Ok q.count) (Err NoSpace))))

@@ -1,6 +1,6 @@
 -- Delete queue: what is left of the struct, for every value of it. A row and the entries that go leave no gap: the later ones move down, and
 -- what stands past the new counts is what stood there.
-use Rattle.std.specs.Prelude.{ℕ, suc, ◌+◌, ◌-◌, ◌≡◌, true, false, not, List, [], ◌∷◌, ◌++◌, eqb, take, drop}
+use Rattle.std.specs.Prelude.{ℕ, suc, ◌+◌, ◌-◌, ◌≡◌, true, false, not, List, [], ◌∷◌, ◌++◌, eqb, take, drop, Result, Ok, Err}
 use Rattle.base.specs.Choice.{pick}
 use Rattle.base.specs.Bytes.{blank}
 use Rattle.base.specs.Lists.{keep, has, copies, over}
@@ -8,21 +8,20 @@ use Rattle.slots.specs.Bits.{used_at, cleared}
 use Rattle.slots.specs.declared.Used.{Used}
 use Rattle.model.specs.Plans.{normal, unknown_queue, invalid_request}
 use Rattle.queues.specs.declared.Queues.{Queues}
-use Rattle.queues.specs.declared.delete.Deleting.{Deleting}
-use Rattle.queues.specs.declared.delete.Deleting.TheVariants.{Freed, UnknownQueue, Invalid}
+use Rattle.queues.specs.declared.delete.DeleteError.{DeleteError}
+use Rattle.queues.specs.declared.delete.DeleteError.TheVariants.{UnknownQueue, Invalid}
 use Rattle.queues.specs.declared.delete.Deleted.{Deleted}
 use Rattle.queues.specs.Table.{rows_in, names_of, pointers_of, entries, owners, places, row_of, slots_in}
 
 -- "14 | delete queue: 8 | 10 if blank, 2 | items freed"
-abbrev pub condition_of : Deleting → ℕ
-condition_of (Freed k) = normal
-condition_of UnknownQueue = unknown_queue
-condition_of Invalid = invalid_request
+abbrev pub condition_of : Result ℕ DeleteError → ℕ
+condition_of (Ok k) = normal
+condition_of (Err UnknownQueue) = unknown_queue
+condition_of (Err Invalid) = invalid_request
 
-abbrev pub number_of : Deleting → ℕ
-number_of (Freed k) = k
-number_of UnknownQueue = 0
-number_of Invalid = 0
+abbrev pub number_of : Result ℕ DeleteError → ℕ
+number_of (Ok k) = k
+number_of (Err e) = 0
 
 -- ---- a row goes
 
@@ -30,16 +29,20 @@ number_of Invalid = 0
 abbrev pub less : ℕ → List ℕ → List ℕ
 less r l = take r l ++ drop (suc r) l
 
-unfoldable pub shut : Queues → ℕ → Queues
-shut q n = record {
+unfoldable pub shut_at : Queues → ℕ → Queues
+shut_at q r = record {
   count = rows_in q - 1;
-  names = over (less (row_of q n) (names_of q)) q.names;
-  pointers = over (less (row_of q n) (pointers_of q)) q.pointers;
+  names = over (less r (names_of q)) q.names;
+  pointers = over (less r (pointers_of q)) q.pointers;
   used = q.used;
   owner = q.owner;
   slot = q.slot;
   len = q.len;
 }
+
+-- the row of a name
+abbrev pub shut : Queues → ℕ → Queues
+shut q n = shut_at q (row_of q n)
 
 -- ---- the entries of an owner go
 
@@ -72,14 +75,17 @@ emptied q n = record {
 
 -- "items freed"
 unfoldable pub swept : Queues → ℕ → Deleted
-swept q n = record { queues = emptied q n; outcome = Freed (copies n (owners q)) }
+swept q n = record { queues = emptied q n; outcome = Ok (copies n (owners q)) }
 
 -- ---- 14 (DeleteQ₀): a faulty command changes nothing
 
+abbrev pub answer : Queues → Result ℕ DeleteError → Deleted
+answer q o = record { queues = q; outcome = o }
+
 unfoldable pub delete_from : Queues → ℕ → Deleted
 delete_from q n =
-    pick (eqb n (blank 8)) (record { queues = q; outcome = Invalid })
-    (pick (has n (names_of q)) (swept (shut q n) n) (record { queues = q; outcome = UnknownQueue }))
+    pick (eqb n (blank 8)) (answer q (Err Invalid))
+    (pick (has n (names_of q)) (swept (shut q n) n) (answer q (Err UnknownQueue)))
 
 -- ---- "Delete frees every place."
 

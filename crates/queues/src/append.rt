@@ -1,62 +1,30 @@
 // Command 10, append: an item at the end of a queue.
-ghost use Rattle.std.specs.Prelude.{◌≡◌, true, [], ◌≤◌, take};
+ghost use Rattle.std.specs.Prelude.{◌≡◌, ◌≤◌, ◌<◌, ◌+◌, true, [], IfOk};
+ghost use Rattle.base.specs.Lists.{copies};
 ghost use Rattle.model.specs.Limits.{cabinet};
 ghost use Rattle.model.specs.Queues as model;
+ghost use Rattle.queues.specs.Table.{entries, owners};
 ghost use Rattle.queues.specs.Model.{queues_of};
 ghost use Rattle.queues.specs.Sound.{sound_q, Did};
-ghost use Rattle.queues.specs.Append.{condition_of, number_of, lent, append_to, way_of, fault_of};
+ghost use Rattle.queues.specs.Append.{condition_of, number_of, lent, answer, put, append_to, checked};
 
 use super::Queues;
-use super::bytes::store;
-use super::find::find;
-use super::place::BLANK;
-use base::sets::tally;
-use slots::Slot;
+use super::place::is_item;
+use base::bytes::store;
+use base::names::BLANK;
 
 #[derive(Clone, Copy)]
-pub enum Appending {
-    Stored(u32), // at this place
+pub enum AppendError {
     NoSpace,
     WrongLength,
     Invalid,
 }
 
+// One struct for each command, and none generic in the outcome: the specs name their fields.
 #[derive(Clone, Copy)]
 pub struct Appended {
     pub queues: Queues,
-    pub outcome: Appending,
-}
-
-#[derive(Clone, Copy)]
-enum Way {
-    Row(usize), // of the name, or for it
-    Fault(Appending),
-}
-
-// The checks of the name and the length, in order; the row that the name has or is to have where none holds.
-fn checks(names: &[u64], count: usize, name: u64, n: usize) -> Way
-    ensures { result ≡ way_of name n (take count names.now) }
-{
-    if name == BLANK {
-        return Way::Fault(Appending::Invalid);
-    }
-    if n < 1 || n > 64 {
-        return Way::Fault(Appending::WrongLength);
-    }
-    let row = find(names, count, name);
-    if row >= 16 {
-        return Way::Fault(Appending::NoSpace);
-    }
-    Way::Row(row)
-}
-
-fn fault(w: Way) -> Appending
-    ensures { result ≡ fault_of w }
-{
-    match w {
-        Way::Row(_) => Appending::NoSpace,
-        Way::Fault(o) => o,
-    }
+    pub outcome: Result<u32, AppendError>, // the place of the item
 }
 
 // The item into the lowest free slot, as the last entry; an unknown name is made a queue. `may` is how many slots the asker may fill.
@@ -64,37 +32,67 @@ pub fn append(mut q: Queues, items: &mut [u8; 8192], may: usize, name: u64, item
     ensures exact { lent result items.new ≡ append_to q items.old may name item.now }
     ensures model { sound_q q ≡ true → may ≤ 128 → Did q items.old result.queues items.new (model.append cabinet may (queues_of q items.old) name item.now) (condition_of result.outcome) (number_of result.outcome) [] }
 {
-    let b: &mut [u8] = items;
-    let n = item.len();
-    let w = checks(&q.names, q.count, name, n);
-    let Way::Row(row) = w else {
-        return Appended {
-            queues: q,
-            outcome: fault(w),
+    let outcome = q.append(items, may, name, item);
+    Appended { queues: q, outcome }
+}
+
+impl Queues {
+    fn append(
+        &mut self,
+        items: &mut [u8; 8192],
+        may: usize,
+        name: u64,
+        item: &[u8],
+    ) -> Result<u32, AppendError>
+        ensures { answer self.new items.new result ≡ append_to self.old items.old may name item.now }
+    {
+        let row = self.checked(name, item.len())?;
+        if row >= self.count {
+            self.names[row] = name;
+            self.pointers[row] = 0;
+            self.count = row + 1;
+        }
+        let Some(k) = slots::free_slot(self.used, may) else {
+            return Err(AppendError::NoSpace);
         };
-    };
-    if row >= q.count {
-        q.names[row] = name;
-        q.pointers[row] = 0;
-        q.count = row + 1;
+        let place = self.put(name, item.len(), k);
+        store(items, k * 64, item);
+        Ok(place)
     }
-    let u = q.used;
-    let free = slots::free_slot(u, may);
-    let Slot::At(k) = free else {
-        return Appended {
-            queues: q,
-            outcome: Appending::NoSpace,
-        };
-    };
-    let e = slots::count(u);
-    let place = tally(&q.owner, e, name) + 1;
-    q.owner[e] = name;
-    q.slot[e] = k as u8;
-    q.len[k] = n as u8;
-    q.used = slots::mark(u, k);
-    store(b, k * 64, item);
-    Appended {
-        queues: q,
-        outcome: Appending::Stored(place as u32),
+
+    // The entry of an item of `size` bytes in slot k, behind the others: its place in the queue.
+    #[tactic(auto, using(crate::proofs::AppendCases::stores_put))]
+    fn put(&mut self, name: u64, size: usize, k: usize) -> u32
+        requires { (entries self.old < 128) × (size ≤ 64) × (k < 128) }
+        ensures entry { self.new ≡ put self.old name size k }
+        ensures place { result ≡ copies name (owners self.old) + 1 }
+    {
+        let e = self.entries();
+        let place = self.items(name) + 1;
+        self.owner[e] = name;
+        self.slot[e] = k as u8;
+        self.len[k] = size as u8;
+        self.used = slots::mark(self.used, k);
+        place as u32
+    }
+
+    // The checks of the name and the length, in order; and the row that the name has, or is to have.
+    // The place behind the rows is the new row: one number serves both.
+    #[tactic(auto, using(crate::proofs::AppendCases::checks), unfolding(crate::specs::Append::checked))]
+    fn checked(&self, name: u64, n: usize) -> Result<usize, AppendError>
+        ensures is { result ≡ checked self.now name n }
+        ensures below { IfOk result (λ r. r < 16) }
+    {
+        if name == BLANK {
+            return Err(AppendError::Invalid);
+        }
+        if !is_item(n) {
+            return Err(AppendError::WrongLength);
+        }
+        match self.row(name) {
+            Some(row) => Ok(row),
+            None if self.count < 16 => Ok(self.count),
+            None => Err(AppendError::NoSpace),
+        }
     }
 }

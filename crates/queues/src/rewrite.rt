@@ -4,27 +4,26 @@ ghost use Rattle.model.specs.Limits.{cabinet};
 ghost use Rattle.model.specs.Queues as model;
 ghost use Rattle.queues.specs.Model.{queues_of};
 ghost use Rattle.queues.specs.Sound.{sound_q, Did};
-ghost use Rattle.queues.specs.Rewrite.{condition_of, lent, rewrite_in};
+ghost use Rattle.queues.specs.Rewrite.{condition_of, lent, answer, rewrite_in};
 
 use super::Queues;
-use super::bytes::store;
-use super::find::find;
-use super::place::{BLANK, slot_at};
-use base::sets::least;
+use super::place::is_item;
+use base::bytes::store;
+use base::names::BLANK;
 
 #[derive(Clone, Copy)]
-pub enum Rewriting {
-    Done,
+pub enum RewriteError {
     WrongLength,
     UnknownQueue,
     NoSuchItem,
     Invalid,
 }
 
+// One struct for each command: the specs name their fields.
 #[derive(Clone, Copy)]
 pub struct Rewritten {
     pub queues: Queues,
-    pub outcome: Rewriting,
+    pub outcome: Result<(), RewriteError>,
 }
 
 // The item in the slot of the one at the place, from 1. The pointer is kept.
@@ -38,39 +37,36 @@ pub fn rewrite(
     ensures exact { lent result items.new ≡ rewrite_in q items.old name place item.now }
     ensures model { sound_q q ≡ true → Did q items.old result.queues items.new (model.rewrite cabinet (queues_of q items.old) name place item.now) (condition_of result.outcome) 0 [] }
 {
-    let b: &mut [u8] = items;
-    let m = item.len();
-    if name == BLANK {
-        return Rewritten {
-            queues: q,
-            outcome: Rewriting::Invalid,
+    let outcome = q.rewrite(items, name, place, item);
+    Rewritten { queues: q, outcome }
+}
+
+impl Queues {
+    #[tactic(auto, using(crate::proofs::RewriteCases::cases), unfolding(crate::specs::Rewrite::rewrite_in))]
+    fn rewrite(
+        &mut self,
+        items: &mut [u8; 8192],
+        name: u64,
+        place: usize,
+        item: &[u8],
+    ) -> Result<(), RewriteError>
+        ensures { answer self.new items.new result ≡ rewrite_in self.old items.old name place item.now }
+    {
+        let m = item.len();
+        if name == BLANK {
+            return Err(RewriteError::Invalid);
+        }
+        if !is_item(m) {
+            return Err(RewriteError::WrongLength);
+        }
+        if self.row(name).is_none() {
+            return Err(RewriteError::UnknownQueue);
+        }
+        let Some(s) = self.slot_at(name, place) else {
+            return Err(RewriteError::NoSuchItem);
         };
-    }
-    if m < 1 || m > 64 {
-        return Rewritten {
-            queues: q,
-            outcome: Rewriting::WrongLength,
-        };
-    }
-    let row = find(&q.names, q.count, name);
-    if row >= least(q.count, 16) {
-        return Rewritten {
-            queues: q,
-            outcome: Rewriting::UnknownQueue,
-        };
-    }
-    let u = q.used;
-    let s = slot_at(&q.owner, &q.slot, &q.len, u, name, place);
-    if s >= 128 {
-        return Rewritten {
-            queues: q,
-            outcome: Rewriting::NoSuchItem,
-        };
-    }
-    q.len[s] = m as u8;
-    store(b, s * 64, item);
-    Rewritten {
-        queues: q,
-        outcome: Rewriting::Done,
+        self.len[s] = m as u8;
+        store(items, s * 64, item);
+        Ok(())
     }
 }

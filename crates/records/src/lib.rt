@@ -3,40 +3,17 @@
 // No function requires anything: each answers for every slice of bytes.
 #![tactic(auto)]
 
-ghost use Rattle.std.specs.Prelude.{◌≡◌, ◌-◌, ◌^◌, ◌<◌, min, length, drop};
+ghost use Rattle.std.specs.Prelude.{◌≡◌, drop};
 ghost use Rattle.base.specs.Bytes.{num};
 ghost use Rattle.model.specs.Commands.{command, issuer, fits, formed, wrong_kind, row_of};
 ghost use Rattle.records.specs.Rows.{size_of, shaped_as, shut_to, Columns};
 
-use base::bytes::{wide, wide64};
+use base::bytes::number_at;
 use base::names::BLANK;
-use base::sets::least;
 
-// How many bytes stand at a place and behind it.
-fn behind(rec: &[u8], at: usize) -> usize
-    ensures { result ≡ length rec.now - at }
-{
-    if at < rec.len() { rec.len() - at } else { 0 }
-}
+// ---- its fields
 
-// "All numbers big-endian": the n bytes at a place, at most 8, or those of them that are there.
-pub fn number_at(rec: &[u8], at: usize, n: usize) -> u64
-    ensures exact { result ≡ num at (min n 8) rec.now }
-    ensures small { result < 256 ^ min n 8 }
-{
-    let asked = least(n, 8);
-    let there = behind(rec, at);
-    let bytes = least(asked, there);
-    let mut a: u64 = 0;
-    let mut i: usize = 0;
-    while i < bytes {
-        let b = wide64(rec[at + i]);
-        a = a * 256 + b;
-        i = i + 1;
-    }
-    a
-}
-
+// A reader for each width: as short as the impls that one reader for all of them would need.
 pub fn number4_at(rec: &[u8], at: usize) -> u32
     ensures exact { result ≡ num at 4 rec.now }
 {
@@ -59,13 +36,13 @@ pub fn number1_at(rec: &[u8], at: usize) -> u8
 pub fn room_at(rec: &[u8], at: usize) -> usize
     ensures exact { result ≡ num at 1 rec.now }
 {
-    wide(number1_at(rec, at))
+    usize::from(number1_at(rec, at))
 }
 
 pub fn place_at(rec: &[u8], at: usize) -> usize
     ensures exact { result ≡ num at 2 rec.now }
 {
-    number2_at(rec, at) as usize
+    usize::from(number2_at(rec, at))
 }
 
 pub fn name_at(rec: &[u8], at: usize) -> u64
@@ -78,14 +55,14 @@ pub fn name_at(rec: &[u8], at: usize) -> u64
 pub fn rest_at<'a>(rec: &'a [u8], at: usize) -> &'a [u8]
     ensures exact { result.now ≡ drop at rec.now }
 {
-    let start = least(at, rec.len());
-    &rec[start..]
+    &rec[at.min(rec.len())..]
 }
 
 pub fn command(rec: &[u8]) -> u8
     ensures exact { result ≡ command rec.now }
 {
-    if 0 < rec.len() { rec[0] } else { 0 }
+    // 0 is no command's number, so such a record is malformed
+    rec.first().copied().unwrap_or(0)
 }
 
 pub fn issuer(rec: &[u8]) -> u64
@@ -100,6 +77,18 @@ pub enum Extent {
     Exactly(usize),
     AtLeast(usize),
     Never,
+}
+
+impl Extent {
+    pub fn fits(self, n: usize) -> bool
+        ensures exact { result ≡ fits (size_of self) n }
+    {
+        match self {
+            Extent::Exactly(k) => n == k,
+            Extent::AtLeast(k) => k <= n,
+            Extent::Never => false,
+        }
+    }
 }
 
 // Who may send a command: "Sys" and "task" in its row, or anyone.
@@ -122,7 +111,7 @@ pub enum Part {
 #[derive(Clone, Copy)]
 pub struct Row(pub Extent, pub Kind, pub Part);
 
-// The table of commands, by their numbers. A command "not 1..17" has operands that never fit.
+// The table of commands, by their numbers: an enum of the 17 would be a second table beside it. A command "not 1..17" has operands that never fit.
 pub fn row_of(command: u8) -> Row
     ensures exact { Columns command result }
 {
@@ -150,24 +139,11 @@ pub fn row_of(command: u8) -> Row
 
 // ---- what a record's row says of it: who reads the row asks these, and so reads it once
 
-pub fn fits(size: Extent, n: usize) -> bool
-    ensures exact { result ≡ fits (size_of size) n }
-{
-    match size {
-        Extent::Exactly(k) => n == k,
-        Extent::AtLeast(k) => k <= n,
-        Extent::Never => false,
-    }
-}
-
 // "33 malformed (command not 1..17, or operands not of the size below)"; "A record of fewer than 9 bytes is malformed".
 pub fn shaped(size: Extent, rec: &[u8]) -> bool
     ensures exact { result ≡ shaped_as (size_of size) rec.now }
 {
-    if rec.len() < 9 {
-        return false;
-    }
-    fits(size, rec.len() - 9)
+    9 <= rec.len() && size.fits(rec.len() - 9)
 }
 
 // "Any other issuer gets 10, before every condition in the row."
@@ -186,8 +162,7 @@ pub fn shut_to(kind: Kind, system: bool) -> bool
 pub fn formed(rec: &[u8]) -> bool
     ensures exact { result ≡ formed rec.now }
 {
-    let row = row_of(command(rec));
-    let size = row.0;
+    let Row(size, _, _) = row_of(command(rec));
     shaped(size, rec)
 }
 
@@ -195,7 +170,6 @@ pub fn formed(rec: &[u8]) -> bool
 pub fn wrong_kind(command: u8, issuer: u64) -> bool
     ensures exact { result ≡ wrong_kind (row_of command).who issuer }
 {
-    let row = row_of(command);
-    let kind = row.1;
+    let Row(_, kind, _) = row_of(command);
     shut_to(kind, issuer == BLANK)
 }

@@ -1,176 +1,156 @@
 // Start.
-ghost use Rattle.std.specs.Prelude.{◌≡◌, ℕ, ◌≤◌, ◌&&◌, List, length, nat_lt};
+ghost use Rattle.std.specs.Prelude.{◌≡◌, ℕ, ◌≤◌, List, length, IfOk};
 ghost use Rattle.model.specs.Interval.{none_or_known};
-ghost use Rattle.words.specs.Said.{gave, handed, code_of};
+ghost use Rattle.model.specs.Plans.{Outcome, done};
+ghost use Rattle.words.specs.Said.{gave, handed};
 ghost use Rattle.names.specs.Names as names;
-ghost use Rattle.request_rows.specs.Table.{view_of, live, slots_in};
-ghost use Rattle.request_rows.specs.Start.{begun_at, asked, kept, start_in};
-ghost use Rattle.request_ops.specs.Start.{refusal, Passed, slot_at, accept_in};
+ghost use Rattle.slots.specs.Bits.{none};
+ghost use Rattle.request_rows.specs.Table.{view_of, live};
+ghost use Rattle.request_rows.specs.Start.{begun_at, used_from, Kept, kept, begin, start_in};
+ghost use Rattle.request_ops.specs.Start.{asks, follows, checked, roomed, Room};
 
-use base::bytes::{store, wide};
+use crate::remove::place;
+use base::bytes::store;
 use base::names::{BLANK, NONE};
-use base::sets::least;
 use names::known;
-use request_rows::{Phase, Request, count, put_request, register, request_at, rows};
-use slots::{Slot, Used};
-use words::said::{Condition, Said, plain};
+use request_rows::{COUNT, Phase, Request, SLOT, count, live, put_request, register, rows};
+use slots::Used;
+use words::said::{Condition, Said};
+
+// "P2 interval 359,999,000 accepted, 359,999,001 gets 10."
+const MOST_TICKS: u32 = 359_999_000;
+
+// "start data | 0..64 bytes, 0 meaning none"
+const MOST_BYTES: usize = 64;
+
+// What a start asks for.
+#[derive(Clone, Copy)]
+pub struct Asked<'a> {
+    pub name: u64,
+    pub program: u32,
+    pub terminal: u32,
+    pub interval: u32,
+    pub bytes: &'a [u8],
+}
 
 // "Due is clock plus interval. .. interval 0 expires at once."
+#[tactic(auto, unfolding(request_rows::specs::Start::begun_at, request_rows::specs::Circle::after))]
 fn begun(register: u32, interval: u32) -> Phase
     ensures { result ≡ begun_at register interval }
 {
     if interval == 0 {
-        return Phase::Expired;
+        Phase::Expired
+    } else {
+        Phase::Waiting(register.wrapping_add(interval))
     }
-    Phase::Waiting(std::num::wrapping_add_u32(register, interval))
 }
 
 // "a blank terminal means none"
 fn none_or_known(terminals: &[u64], name: u32) -> bool
     ensures { result ≡ none_or_known name (names.names_in (names.view_of terminals.now)) }
 {
-    if name == NONE {
-        return true;
-    }
-    known(terminals, name)
+    name == NONE || known(terminals, name)
 }
 
-// What is said before the requests are looked at: "10 blank request or interval above bound; 4 data over 64; 5; 6".
-fn refused(
-    programs: &[u64],
-    terminals: &[u64],
-    name: u64,
-    program: u32,
-    terminal: u32,
-    interval: u32,
-    size: usize,
-) -> Condition
-    ensures { code_of result ≡ refusal (names.view_of programs.now) (names.view_of terminals.now) name program terminal interval size }
+// What is asked before the requests are looked at: "10 blank request or interval above bound; 4 data over 64; 5; 6".
+#[tactic(auto, unfolding(crate::specs::Start::checked))]
+fn check(programs: &[u64], terminals: &[u64], a: &Asked) -> Result<(), Condition>
+    ensures exact { (s : Kept) (o : Outcome Kept) → follows result s o ≡ checked (names.view_of programs.now) (names.view_of terminals.now) (asks a.now) s o }
+    ensures short { IfOk result (λ u. length a.now.bytes.now ≤ 64) }
 {
-    if name == BLANK {
-        return Condition::InvalidRequest;
+    if a.name == BLANK || a.interval > MOST_TICKS {
+        return Err(Condition::InvalidRequest);
     }
-    if interval > 359999000 {
-        return Condition::InvalidRequest;
+    if a.bytes.len() > MOST_BYTES {
+        return Err(Condition::WrongLength);
     }
-    if size > 64 {
-        return Condition::WrongLength;
+    if !known(programs, a.program) {
+        return Err(Condition::UnknownProgram);
     }
-    if known(programs, program) {
-        if none_or_known(terminals, terminal) {
-            return Condition::Normal;
-        }
-        return Condition::UnknownTerminal;
+    if !none_or_known(terminals, a.terminal) {
+        return Err(Condition::UnknownTerminal);
     }
-    Condition::UnknownProgram
+    Ok(())
 }
 
-// Where a name stands, and the slots of the rows before it.
-#[derive(Clone, Copy)]
-struct Pass {
-    at: usize,
-    used: Used,
-}
-
-// One pass: where the name stands, or how many requests there are; and the slots of those before it.
-fn scan(requests: &[u64], name: u64) -> Pass
-    ensures { Passed (live (view_of requests.now)) name result.at result.used }
+// The slots that the requests have.
+fn used(requests: &[u64]) -> Used
+    ensures { result ≡ used_from none (live (view_of requests.now)) }
 {
-    let m = count(requests);
-    let mut used = slots::none();
-    let mut i: usize = 0;
-    while i < m {
-        let q = request_at(requests, i);
-        if q.name == name {
-            return Pass { at: i, used };
-        }
-        used = slots::mark(used, wide(q.slot));
-        i += 1;
-    }
-    Pass { at: i, used }
+    live(requests).iter().fold(
+        slots::none(),
+        |used, row| slots::mark(used, usize::from(Request::from(*row).slot)),
+    )
 }
 
-// The lowest slot that is not in use, and 128 where all are.
-fn slot_at(u: Used) -> usize
-    ensures { result ≡ slot_at u }
+// "1": the lowest slot that no request has, where a row is left behind those in use and the slot's bytes are lent.
+#[tactic(auto, using(crate::specs::Laws::Start::no_row_left, crate::specs::Laws::Start::no_slot_left), unfolding(request_rows::specs::Start::free_slot))]
+fn room(requests: &[u64], area: &[u8]) -> Result<usize, Condition>
+    ensures exact { (s : Kept) (o : Outcome Kept) → follows result s o ≡ roomed (view_of requests.now) area.now s o }
+    ensures room { IfOk result (Room (view_of requests.now)) }
 {
-    let f = slots::free_slot(u, 128);
-    match f {
-        Slot::At(k) => k,
-        Slot::Full => 128,
+    if count(requests) >= rows(requests).len() {
+        return Err(Condition::NoSpace);
+    }
+    match slots::free_slot(used(requests), slots::ALL) {
+        Some(slot) if slot < area.len() / SLOT => Ok(slot),
+        _ => Err(Condition::NoSpace),
     }
 }
 
-// Whether there is a row behind the m that are in use, and slot k among those of 64 bytes that are lent.
-fn has_room(requests: &[u64], area: &[u8], m: usize, k: usize) -> bool
-    ensures { result ≡ (nat_lt m (length (view_of requests.now).rows) && nat_lt k (slots_in area.now)) }
-{
-    m < rows(requests) && k < least(area.len() / 64, 128)
-}
-
-// What is done where nothing is refused: "7; 1".
-fn accept(
-    requests: &mut [u64],
-    area: &mut [u8],
-    name: u64,
-    program: u32,
-    terminal: u32,
-    interval: u32,
-    bytes: &[u8],
-) -> Said
-    requires { length bytes.now ≤ 64 }
-    ensures exact { (b : List ℕ) → gave result (kept (view_of requests.new) area.new) b ≡ handed (accept_in (view_of requests.old) area.old (asked name program terminal interval bytes.now)) b }
-    ensures short { result.len ≤ 64 }
+// The request behind those in use, its data in the slot.
+#[tactic(auto, using(request_rows::specs::Laws::View::rows_in_lem))]
+fn begin(requests: &mut [u64], area: &mut [u8], a: &Asked, slot: usize)
+    requires room { Room (view_of requests.old) slot }
+    requires short { length a.now.bytes.now ≤ 64 }
+    ensures { kept (view_of requests.new) area.new ≡ begin (view_of requests.old) area.old (asks a.now) slot }
 {
     let m = count(requests);
-    let s = scan(requests, name);
-    if s.at < m {
-        return plain(Condition::NotUnique, 0);
-    }
-    let k = slot_at(s.used);
-    if has_room(requests, area, m, k) {
-        let q = Request {
-            name,
-            program,
-            terminal,
-            phase: begun(register(requests), interval),
-            len: bytes.len() as u8,
-            slot: k as u8,
-        };
-        put_request(requests, m, q);
-        requests[1] = (m + 1) as u64;
-        store(area, k * 64, bytes);
-        return plain(Condition::Normal, 0);
-    }
-    plain(Condition::NoSpace, 0)
+    let q = Request {
+        name: a.name,
+        program: a.program,
+        terminal: a.terminal,
+        phase: begun(register(requests), a.interval),
+        len: a.bytes.len() as u8,
+        slot: slot as u8,
+    };
+    put_request(requests, m, q);
+    requests[COUNT] = (m + 1) as u64;
+    store(area, slot * SLOT, a.bytes);
 }
 
 // The checks in their order, and the request where none of them holds.
+#[tactic(auto, using(crate::specs::Laws::Start::start_taken, crate::specs::Laws::Start::start_on))]
+fn accept(
+    programs: &[u64],
+    terminals: &[u64],
+    requests: &mut [u64],
+    area: &mut [u8],
+    a: &Asked,
+) -> Result<(), Condition>
+    ensures { let s = kept (view_of requests.new) area.new in follows result s (done s 0) ≡ start_in (names.view_of programs.now) (names.view_of terminals.now) (view_of requests.old) area.old (asks a.now) }
+{
+    check(programs, terminals, a)?;
+    if place(requests, a.name).is_some() {
+        return Err(Condition::NotUnique);
+    }
+    let slot = room(requests, area)?;
+    begin(requests, area, a, slot);
+    Ok(())
+}
+
+// Start, and what is said of it.
 pub fn start(
     programs: &[u64],
     terminals: &[u64],
     requests: &mut [u64],
     area: &mut [u8],
-    name: u64,
-    program: u32,
-    terminal: u32,
-    interval: u32,
-    bytes: &[u8],
+    a: &Asked,
 ) -> Said
-    ensures exact { (b : List ℕ) → gave result (kept (view_of requests.new) area.new) b ≡ handed (start_in (names.view_of programs.now) (names.view_of terminals.now) (view_of requests.old) area.old (asked name program terminal interval bytes.now)) b }
-    ensures short { result.len ≤ 64 }
+    ensures exact { (b : List ℕ) → gave result (kept (view_of requests.new) area.new) b ≡ handed (start_in (names.view_of programs.now) (names.view_of terminals.now) (view_of requests.old) area.old (asks a.now)) b }
 {
-    let o = refused(
-        programs,
-        terminals,
-        name,
-        program,
-        terminal,
-        interval,
-        bytes.len(),
-    );
-    let Condition::Normal = o else {
-        return plain(o, 0);
-    };
-    accept(requests, area, name, program, terminal, interval, bytes)
+    match accept(programs, terminals, requests, area, a) {
+        Ok(()) => Said::plain(Condition::Normal, 0),
+        Err(condition) => Said::plain(condition, 0),
+    }
 }

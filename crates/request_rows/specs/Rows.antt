@@ -1,5 +1,5 @@
 -- A request in four words, and every four words as a request: each word has one reading.
-use Rattle.std.specs.Prelude.{ℕ, ◌+◌, ◌*◌, ◌/◌, ◌%◌, min, Bool, true, false, not, List, [], ◌∷◌, ◌++◌, eqb, take, drop}
+use Rattle.std.specs.Prelude.{ℕ, ◌+◌, ◌*◌, ◌/◌, ◌%◌, min, Bool, true, false, not, List, [], ◌∷◌, ◌++◌, eqb, take, drop, get_or}
 use Rattle.base.specs.Choice.{pick}
 use Rattle.request_rows.specs.declared.Phase.{Phase}
 use Rattle.request_rows.specs.declared.Phase.TheVariants.{Waiting, Expired, Active}
@@ -17,6 +17,10 @@ row a b c d = record { name = a; who = b; phase = c; rest = d }
 -- what is read where there is no row
 abbrev pub no_row : Row
 no_row = row 0 0 0 0
+
+-- four words as a row
+abbrev pub row_of : List ℕ → Row
+row_of w = row (get_or w 0 0) (get_or w 1 0) (get_or w 2 0) (get_or w 3 0)
 
 -- ---- words as rows: the whole rows, and the words past them
 

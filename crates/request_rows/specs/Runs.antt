@@ -1,14 +1,12 @@
 -- The operations one after the other, any number of them: what each comes to by its exact definition, and what it comes to in the model. Laws/Runs.antt
 -- shows that the same is heard (`runs_fresh`), Laws/Moved.antt that two register values are heard alike but for the ticks (`moved`). Assumes nothing.
-use Rattle.std.specs.Prelude.{ℕ, ◌+◌, ◌%◌, ◌^◌, Bool, true, false, ◌&&◌, List, [], ◌∷◌, ltb}
+use Rattle.std.specs.Prelude.{ℕ, ◌+◌, ◌%◌, ◌^◌, Bool, true, false, ◌&&◌, List, [], ◌∷◌, ltb, Option, Some, None}
 use Rattle.base.specs.Choice.{pick}
 use Rattle.base.specs.Bytes.{is_bytes}
 use Rattle.model.specs.Limits.{Limits}
 use Rattle.model.specs.Plans.{Outcome, Plan, fault, done, first_of, obey, outcome_in}
 use Rattle.model.specs.Interval as model
 use Rattle.names.specs.Names.{define_in}
-use Rattle.request_rows.specs.declared.Task.{Task}
-use Rattle.request_rows.specs.declared.Task.TheVariants.{At, Nobody}
 use Rattle.request_rows.specs.Active.{task_in}
 use Rattle.request_rows.specs.Advance.{advance_in, ask_in}
 use Rattle.request_rows.specs.Cancel.{cancel_in}
@@ -54,9 +52,9 @@ abbrev pub unknown_issuer : ℕ
 unknown_issuer = 34
 
 -- a task retrieves from its row
-abbrev pub retrieved : Memory → ℕ → Task → Outcome Memory
-retrieved m room (At i) = outcome_in (with_requests m) (retrieve_at m.requests m.area i room)
-retrieved m room Nobody = fault m unknown_issuer
+abbrev pub retrieved : Memory → ℕ → Option ℕ → Outcome Memory
+retrieved m room (Some i) = outcome_in (with_requests m) (retrieve_at m.requests m.area i room)
+retrieved m room None = fault m unknown_issuer
 
 abbrev pub turn : Memory → Ask → Outcome Memory
 turn m (Program n) = outcome_in (with_programs m) (define_in m.programs n)

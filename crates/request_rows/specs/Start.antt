@@ -1,12 +1,10 @@
 -- Start.
-use Rattle.std.specs.Prelude.{ℕ, ◌*◌, Bool, not, ◌&&◌, ◌||◌, List, [], ◌∷◌, ◌++◌, eqb, ltb, length}
+use Rattle.std.specs.Prelude.{ℕ, ◌*◌, Bool, not, ◌&&◌, ◌||◌, List, [], ◌∷◌, ◌++◌, eqb, ltb, length, Option, Some, None}
 use Rattle.base.specs.Choice.{pick}
 use Rattle.base.specs.Lists.{any, has}
 use Rattle.base.specs.Bytes.{blank, stored}
 use Rattle.slots.specs.Bits.{none, marked, free_for}
 use Rattle.slots.specs.declared.Used.{Used}
-use Rattle.slots.specs.declared.Slot.{Slot}
-use Rattle.slots.specs.declared.Slot.TheVariants.{At, Full}
 use Rattle.model.specs.Plans.{invalid_request, wrong_length, unknown_program, unknown_terminal, not_unique, no_space, Outcome, fault, done}
 use Rattle.model.specs.Interval.{Asked, none_or_known}
 use Rattle.names.specs.Names.{Names, names_in}
@@ -29,9 +27,9 @@ abbrev pub used_from : Used → List Row → Used
 used_from u [] = u
 used_from u (q ∷ l) = used_from (marked u (slot_of q)) l
 
-abbrev pub slot_from : Slot → ℕ
-slot_from (At k) = k
-slot_from Full = 128
+abbrev pub slot_from : Option ℕ → ℕ
+slot_from (Some k) = k
+slot_from None = 128
 
 -- 128 where there is none
 unfoldable pub free_slot : List Row → ℕ

@@ -1,16 +1,18 @@
 -- The soundness check in the words' own terms: a row's test, and the columns in which none may stand twice.
-use Rattle.std.specs.Prelude.{ℕ, Bool, true, not, ◌&&◌, ◌||◌, List, map, ◌==◌, nat_le, nat_lt}
-use Rattle.base.specs.Choice.{pick}
-use Rattle.base.specs.Lists.{keep, has, once}
+use Rattle.std.specs.Prelude.{ℕ, Bool, true, false, not, ◌&&◌, ◌||◌, Option, None, Some, List, length, ◌==◌, nat_le, nat_lt}
+use Rattle.std.specs.Bool.{then_some}
+use Rattle.std.specs.List.{filter_map}
+use Rattle.base.specs.Lists.{all, has, once}
 use Rattle.base.specs.Bytes.{blank}
-use Rattle.names.specs.Names.{Names, names_in}
+use Rattle.names.specs.Names.{Names, names_in, sound_names}
 use Rattle.request_rows.specs.declared.Phase.{Phase}
 use Rattle.request_rows.specs.declared.Phase.TheVariants.{Waiting, Expired, Active}
 use Rattle.request_rows.specs.declared.Request.{Request}
 use Rattle.request_rows.specs.Circle.{to_go}
 use Rattle.request_rows.specs.Rows.{Row, is_active, program_of, terminal_of, decode}
-use Rattle.request_rows.specs.Table.{Requests, register_of}
-use Rattle.request_sound.specs.declared.columns.Key.{Key}
+use Rattle.request_rows.specs.Table.{Requests, register_of, live}
+use Rattle.request_sound.specs.declared.columns.Column.{Column}
+use Rattle.request_sound.specs.declared.columns.Column.TheVariants.{Name, Slot, Program, Terminal}
 
 -- ---- a row
 
@@ -35,27 +37,39 @@ sound_in programs terminals t slots q =
 
 -- ---- columns
 
--- what a row has in a column: 0 its name; 1 its data slot; 2 its program, where it is active; 3 its terminal, where it is active and has one
-unfoldable pub key_of : ℕ → Request → Key
-key_of which q =
-    pick (which == 0) (record { on = true; value = q.name })
-    (pick (which == 1) (record { on = true; value = q.slot })
-    (pick (which == 2) (record { on = is_active q.phase; value = q.program })
-    (record { on = is_active q.phase && not (q.terminal == blank 4); value = q.terminal })))
+-- what a row has in a column, if it has anything there: its name; its data slot; its program, where it is active; its terminal, where it is active and has one
+abbrev pub key_of : Column → Request → Option ℕ
+key_of Name q = Some q.name
+key_of Slot q = Some q.slot
+key_of Program q = then_some (is_active q.phase) q.program
+key_of Terminal q = then_some (is_active q.phase && not (q.terminal == blank 4)) q.terminal
 
-abbrev pub is_in : ℕ → Row → Bool
-is_in which q = (key_of which (decode q)).on
+abbrev pub key_in : Column → Row → Option ℕ
+key_in which q = key_of which (decode q)
 
-abbrev pub value_in : ℕ → Row → ℕ
-value_in which q = (key_of which (decode q)).value
+abbrev pub column : Column → List Row → List ℕ
+column which l = filter_map (key_in which) l
 
-abbrev pub column : ℕ → List Row → List ℕ
-column which l = map (value_in which) (keep (is_in which) l)
+-- is a key, if there is one, among those
+abbrev pub key_among : Option ℕ → List ℕ → Bool
+key_among None l = false
+key_among (Some k) l = has k l
 
 -- what a row has in a column stands there in one of those rows
-abbrev pub seen : ℕ → Row → List Row → Bool
-seen which q l = is_in which q && has (value_in which q) (column which l)
+abbrev pub seen : Column → Row → List Row → Bool
+seen which q l = key_among (key_in which q) (column which l)
 
 -- none stands twice in any of the four
 abbrev pub apart : List Row → Bool
-apart l = (once (column 0 l) && once (column 1 l)) && (once (column 2 l) && once (column 3 l))
+apart l = once (column Name l) && once (column Slot l) && once (column Program l) && once (column Terminal l)
+
+-- ---- all of it
+
+-- there is a register, and no more requests than rows
+abbrev pub headed : Requests → Bool
+headed t = length t.register == 1 && nat_le t.count (length t.rows)
+
+-- what is looked at, where there are so many slots
+abbrev pub checked : Names → Names → Requests → ℕ → Bool
+checked programs terminals t slots =
+    sound_names programs && sound_names terminals && headed t && all (sound_in programs terminals t slots) (live t) && apart (live t)

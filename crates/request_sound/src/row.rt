@@ -2,7 +2,6 @@
 ghost use Rattle.std.specs.Prelude.{◌≡◌, ◌&&◌, nat_le};
 ghost use Rattle.request_sound.specs.Sound.{phase_fits, laid, sound_row};
 
-use crate::tests::{both, either, every};
 use base::names::{BLANK, NONE};
 use request_rows::{Phase, Request};
 
@@ -10,17 +9,18 @@ use request_rows::{Phase, Request};
 fn ahead(ticks: u32) -> bool
     ensures { result ≡ (nat_le 1 ticks && nat_le ticks 359_999_000) }
 {
-    both(ticks >= 1, ticks <= 359_999_000)
+    (1..=359_999_000).contains(&ticks)
 }
 
 // Whether a phase suits the length of the data, by the ticks to go on the register's circle.
+#[tactic(auto, unfolding(request_rows::specs::Circle::to_go))]
 fn phase_sound(p: Phase, len: u8, register: u32) -> bool
     ensures { result ≡ phase_fits register len p }
 {
     match p {
-        Phase::Waiting(d) => ahead(std::num::wrapping_sub_u32(d, register)),
+        Phase::Waiting(due) => ahead(due.wrapping_sub(register)),
         Phase::Expired => true,
-        Phase::Active(taken) => either(!taken, len >= 1),
+        Phase::Active(taken) => !taken || len >= 1,
     }
 }
 
@@ -28,10 +28,11 @@ fn phase_sound(p: Phase, len: u8, register: u32) -> bool
 fn data_laid(q: Request, slots: usize) -> bool
     ensures { result ≡ laid slots q }
 {
-    both(q.len <= 64, (q.slot as usize) < slots)
+    q.len <= 64 && usize::from(q.slot) < slots
 }
 
 // One row, whose program is known or not, and whose terminal is.
+#[tactic(auto, unfolding(crate::specs::Sound::sound_row))]
 pub(crate) fn row_sound(
     q: Request,
     register: u32,
@@ -41,8 +42,9 @@ pub(crate) fn row_sound(
 ) -> bool
     ensures { result ≡ sound_row register slots program terminal q }
 {
-    let p = q.phase;
-    let a = either(q.terminal == NONE, terminal);
-    let b = phase_sound(p, q.len, register);
-    every(data_laid(q, slots), q.name != BLANK, program, a, b)
+    data_laid(q, slots)
+        && q.name != BLANK
+        && program
+        && (q.terminal == NONE || terminal)
+        && phase_sound(q.phase, q.len, register)
 }

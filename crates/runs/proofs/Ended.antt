@@ -6,21 +6,21 @@ use native.Mathlib.Omega.{arith}
 use lib.ListN.{length}
 use borrow.Author.Tests.{le-leb, lt-leb}
 use Rattle.model.specs.Lists.{Framed, good, framed}
-use Rattle.frames.specs.Framing.{framing}
+use Rattle.std.specs.Prelude.{Some, None}
+use Rattle.frames.specs.Framing.{accepted, framing}
 use Rattle.frames.specs.Reading.{records_from}
 use Rattle.frames.specs.Laws.Framing.{IsFramed, accepted_told, refused_told}
-use Rattle.frames.specs.declared.framing.Framing.TheVariants.{Refused, Framed as Accepted}
 use Rattle.turn_rules.specs.Tables.{Tables}
 use Rattle.turn_rules.specs.Turn.{Left}
 use Rattle.turn_rules.specs.Standing.{fresh_of}
 use Rattle.runs.specs.Run.{run_of, Fitting, Ended, refusal, finished, run_in}
 
 module _ (l : List ℕ) (t : Tables) (b : List ℕ) where
-  pub not_framed : Refused ≡ framing (framed l) → refusal 35 t b ≡ run_in (framed l) t b
+  pub not_framed : None ≡ framing (framed l) → refusal 35 t b ≡ run_in (framed l) t b
   unfolding run_in
   not_framed q = ap (λ (f : Framed). run_in f t b) (sym (refused_told l q))
 
-  module _ (n v : ℕ) (q : Accepted n v ≡ framing (framed l)) where
+  module _ (n v : ℕ) (q : Some (accepted n v) ≡ framing (framed l)) where
     told : IsFramed l v × (n ≡ length (records_from l 9))
     told = accepted_told l v n q
 

@@ -1,3 +1,2 @@
-pub mod Lent
 pub mod Running
 pub mod Ended

@@ -16,10 +16,11 @@ use Rattle.frames.specs.Laws.Tails.{tail_of, put_tail, over_put_tail, tail_lengt
 use Rattle.frames.specs.declared.reading.Part.{Part}
 use Rattle.frames.specs.declared.reading.Part.TheVariants.{Record}
 use Rattle.turn_rules.specs.Tables.{Tables}
+use Rattle.turn_rules.specs.Lent.{SameLoans}
+use Rattle.turn_rules.specs.declared.Lent.{Lent}
 use Rattle.turn_rules.specs.Turn.{Left, left, left_over, turned, turned_in, turn_of}
 use Rattle.turn_rules.specs.Run.{answers_in, tables_after}
 use Rattle.runs.specs.Run.{run_of, Fitting}
-use Rattle.runs.proofs.Lent.{Lent, held, Same, same_refl, same_trans}
 
 -- the answers of the records passed stand at the front of the buffer; what is left, from the tables as they are, is the rest of all
 pub record Running (l out₀ : List ℕ) (t₀ : Tables) (out : List ℕ) (t : Tables) (at w : ℕ) : Type 0 where
@@ -109,16 +110,14 @@ module _ {l out₀ : List ℕ} {t₀ : Tables} {out : List ℕ} {t : Tables} {at
             last = ap (λ (x : Tables). tables_after x (records_from l next)) ue ∙ ap (tables_after t) onward.cut ∙ R.last;
           }
 
--- with the tables as they are lent, whose lengths stay
-pub record Looping (l out₀ : List ℕ) (t₀ : Lent) (out : List ℕ) (t : Lent) (at w : ℕ) : Type 0 where
-  pub running : Running l out₀ (held t₀) out (held t) at w
-  pub same : Same t t₀
-
-pub looping_none : (l out : List ℕ) (t : Lent) → Fitting l out → Looping l out t out t 9 0
-looping_none l out t f = record { running = running_none l out (held t) f; same = same_refl t }
-
-module _ {l out₀ : List ℕ} {t₀ : Lent} {out : List ℕ} {t : Lent} {at w : ℕ} (L : Looping l out₀ t₀ out t at w) (start next : ℕ)
-    (said : Record start next ≡ part_at l at) (n : ℕ) (u : Lent) (ys : List ℕ)
-    (wrote : left n (held u) ys ≡ turned_in (held t) (take (next - start) (drop start l)) (tail_of w out)) (short : n ≤ 74) (same : Same u t) where
-  pub looping_more : Looping l out₀ t₀ (put_tail w out ys) u next (w + n)
-  looping_more = record { running = running_more L.running start next said n (held u) ys wrote short; same = same_trans u t t₀ same L.same }
+-- the caller's own, call after call
+pub loans_then : {t u v : Lent} → SameLoans t u → SameLoans u v → SameLoans t v
+loans_then a b = record {
+  programs = a.programs ∙ b.programs;
+  terminals = a.terminals ∙ b.terminals;
+  requests = a.requests ∙ b.requests;
+  area = a.area ∙ b.area;
+  queues = a.queues ∙ b.queues;
+  items = a.items ∙ b.items;
+  settings = a.settings ∙ b.settings;
+}

@@ -1,5 +1,5 @@
 -- A list over lent tables, for all that they hold (document 01, "The list and the answers").
-use Rattle.std.specs.Prelude.{ℕ, ◌*◌, ◌≤◌, List, leb, length}
+use Rattle.std.specs.Prelude.{ℕ, ◌*◌, ◌≤◌, List, leb, length, Result, Ok, Err}
 use Rattle.base.specs.Choice.{pick}
 use Rattle.model.specs.Lists.{Framed, bad, good, encoded_all}
 use Rattle.frames.specs.Reading.{records_from, Filled}
@@ -7,7 +7,8 @@ use Rattle.turn_rules.specs.Tables.{Tables}
 use Rattle.turn_rules.specs.Turn.{Left, left_over}
 use Rattle.turn_rules.specs.Standing.{fresh_of}
 use Rattle.turn_rules.specs.Run.{answers_in, tables_after}
-use Rattle.runs.specs.declared.run.Ran.{Ran}
+use Rattle.frames.specs.Refused.{code_of}
+use Rattle.frames.specs.declared.refused.Refused.{Refused}
 
 -- "bytes past the last answer keep their values"
 unfoldable pub run_of : Tables → List (List ℕ) → List ℕ → Left
@@ -27,12 +28,14 @@ pub record Ended : Type 0 where
   pub tables : Tables
   pub buffer : List ℕ
 
-abbrev pub ended : Ran → Tables → List ℕ → Ended
-ended r t b = record { code = r.code; written = r.written; tables = t; buffer = b }
-
 -- "A refused list runs nothing and writes nothing."
 abbrev pub refusal : ℕ → Tables → List ℕ → Ended
 refusal c t b = record { code = c; written = 0; tables = t; buffer = b }
+
+-- "returns 0, 35 or 36 and the number of bytes written"
+abbrev pub ended : Result ℕ Refused → Tables → List ℕ → Ended
+ended (Ok n) t b = record { code = 0; written = n; tables = t; buffer = b }
+ended (Err r) t b = refusal (code_of r) t b
 
 abbrev pub finished : Left → Ended
 finished l = record { code = 0; written = l.count; tables = l.tables; buffer = l.buffer }

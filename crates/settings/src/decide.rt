@@ -6,9 +6,8 @@ ghost use Rattle.settings.specs.Table.{view_of, rows_in, setting_of, tasks_of};
 ghost use Rattle.settings.specs.Decide.{or_else, decide_in};
 
 use crate::names::count;
-use crate::rows::place;
-use crate::{LAST, ROW, Setting, setting_of};
-use base::bytes::wide;
+use crate::rows::{place, row};
+use crate::{LAST, Setting};
 
 // The setting for a condition in row i; there is none above 10.
 fn setting_at(settings: &[u64], i: usize, condition: u8) -> Setting
@@ -18,17 +17,18 @@ fn setting_at(settings: &[u64], i: usize, condition: u8) -> Setting
     if condition > LAST {
         return Setting::Unset;
     }
-    let at = i * ROW + 2 + wide(condition);
-    setting_of(settings[at])
+    Setting::from(row(settings, i)[1 + usize::from(condition)])
 }
 
-fn or_else(own: Setting, general: Setting) -> Setting
-    ensures { result ≡ or_else own general }
-{
-    match own {
-        Setting::Unset => general,
-        Setting::Ignore => own,
-        Setting::Label(_) => own,
+impl Setting {
+    // "if unset, setting 0"
+    fn or_else(self, general: Setting) -> Setting
+        ensures { result ≡ or_else self general }
+    {
+        match self {
+            Setting::Unset => general,
+            own => own,
+        }
     }
 }
 
@@ -38,11 +38,10 @@ pub fn decide(settings: &[u64], task: u64, condition: u8) -> Setting
     ensures model { setting_of result ≡ model.decides (tasks_of (view_of settings.now)) task condition }
 {
     let n = count(settings);
-    let i = place(settings, n, task);
-    if i < n {
-        let own = setting_at(settings, i, condition);
-        let general = setting_at(settings, i, 0);
-        return or_else(own, general);
-    }
-    Setting::Unset
+    let Some(i) = place(settings, n, task) else {
+        return Setting::Unset;
+    };
+    let own = setting_at(settings, i, condition);
+    let general = setting_at(settings, i, 0);
+    own.or_else(general)
 }

@@ -14,8 +14,7 @@ pub fn forget(settings: &mut [u64], task: u64)
     ensures model { sound_h (view_of settings.old) ≡ true → Forgotten (view_of settings.old) task (view_of settings.new) }
 {
     let n = count(settings);
-    let i = place(settings, n, task);
-    if i < n {
+    if let Some(i) = place(settings, n, task) {
         let end = n * ROW + 1;
         shut(&mut settings[1..end], i * ROW, ROW);
         settings[0] = (n - 1) as u64;

@@ -3,10 +3,9 @@
 #![tactic(auto)]
 
 ghost use Rattle.std.specs.Prelude.{◌≡◌};
-ghost use Rattle.settings.specs.Rows.{read_setting, setting_word};
 
 // "unset, ignore, or a label 1..65535"
-#[derive(Clone, Copy)]
+#[derive(Clone, Copy, PartialEq, Eq)]
 pub enum Setting {
     Unset,
     Ignore,
@@ -23,26 +22,33 @@ const SETTINGS: usize = 11;
 const LAST: u8 = 10;
 
 // A setting as a word, and a word as a setting: every word is one, so a label that is read is never 0.
-pub fn setting_word(s: Setting) -> u64
-    ensures exact { result ≡ setting_word s }
-{
-    match s {
-        Setting::Unset => 0,
-        Setting::Ignore => 65536,
-        Setting::Label(n) => n as u64,
+impl From<Setting> for u64 {
+    ghost use Rattle.settings.specs.Rows.{setting_word};
+
+    ghost from_gives = { λ s w. w ≡ setting_word s };
+
+    fn from(s: Setting) -> u64 {
+        match s {
+            Setting::Unset => 0,
+            Setting::Ignore => 65536,
+            Setting::Label(n) => u64::from(n),
+        }
     }
 }
 
-pub fn setting_of(w: u64) -> Setting
-    ensures exact { result ≡ read_setting w }
-{
-    if w == 0 {
-        return Setting::Unset;
+impl From<u64> for Setting {
+    ghost use Rattle.settings.specs.Rows.{read_setting};
+
+    ghost from_gives = { λ w s. s ≡ read_setting w };
+
+    #[tactic(auto, unfolding(crate::specs::Rows::read_setting))]
+    fn from(w: u64) -> Setting {
+        match u16::try_from(w) {
+            Ok(0) => Setting::Unset,
+            Ok(n) => Setting::Label(n),
+            Err(_) => Setting::Ignore,
+        }
     }
-    if w < 65536 {
-        return Setting::Label(w as u16);
-    }
-    Setting::Ignore
 }
 
 pub mod decide;

@@ -8,10 +8,9 @@ ghost use Rattle.settings.specs.Set.{add_in, set_in, set_to, handle_in, ignore_i
 
 use crate::names::count;
 use crate::rows::{place, rows_in};
-use crate::{LAST, ROW, Setting, setting_word};
-use base::bytes::wide;
+use crate::{LAST, ROW, Setting};
 use words::cells::clear;
-use words::said::{Condition, Said, plain};
+use words::said::{Condition, Said};
 
 // A row for a task that had none: "All are unset at dispatch", and one setting is made.
 fn new_row(row: &mut [u64], task: u64, c: usize, w: u64)
@@ -45,10 +44,9 @@ fn put(settings: &mut [u64], task: u64, condition: u8, setting: Setting)
     ensures { view_of settings.new ≡ set_in (view_of settings.old) task condition setting }
 {
     let n = count(settings);
-    let i = place(settings, n, task);
-    let c = wide(condition);
-    let w = setting_word(setting);
-    if i < n {
+    let c = usize::from(condition);
+    let w = u64::from(setting);
+    if let Some(i) = place(settings, n, task) {
         settings[i * ROW + 2 + c] = w;
     } else {
         add(settings, n, task, c, w);
@@ -57,24 +55,22 @@ fn put(settings: &mut [u64], task: u64, condition: u8, setting: Setting)
 
 // All three: "10 condition above 10".
 fn set_to(settings: &mut [u64], task: u64, condition: u8, setting: Setting) -> Said
-    ensures exact { (b : List ℕ) → gave result (view_of settings.new) b ≡ handed (set_to (ltb 10 condition) (view_of settings.old) task condition setting) b }
-    ensures short { result.len ≤ 64 }
+    ensures { (b : List ℕ) → gave result (view_of settings.new) b ≡ handed (set_to (ltb 10 condition) (view_of settings.old) task condition setting) b }
 {
     if condition > LAST {
-        return plain(Condition::InvalidRequest, 0);
+        return Said::plain(Condition::InvalidRequest, 0);
     }
     put(settings, task, condition, setting);
-    plain(Condition::Normal, 0)
+    Said::plain(Condition::Normal, 0)
 }
 
 // "10 condition above 10 or label 0"
 pub fn handle(settings: &mut [u64], task: u64, condition: u8, label: u16) -> Said
     ensures exact { (b : List ℕ) → gave result (view_of settings.new) b ≡ handed (handle_in (view_of settings.old) task condition label) b }
-    ensures short { result.len ≤ 64 }
     ensures model { Obeys (view_of settings.old) task (told result [] (view_of settings.new)) (model.handle (tasks_of (view_of settings.old)) task condition label) }
 {
     if label == 0 {
-        return plain(Condition::InvalidRequest, 0);
+        return Said::plain(Condition::InvalidRequest, 0);
     }
     set_to(settings, task, condition, Setting::Label(label))
 }
@@ -82,7 +78,6 @@ pub fn handle(settings: &mut [u64], task: u64, condition: u8, label: u16) -> Sai
 // "10 condition above 10"
 pub fn ignore(settings: &mut [u64], task: u64, condition: u8) -> Said
     ensures exact { (b : List ℕ) → gave result (view_of settings.new) b ≡ handed (ignore_in (view_of settings.old) task condition) b }
-    ensures short { result.len ≤ 64 }
     ensures model { Obeys (view_of settings.old) task (told result [] (view_of settings.new)) (model.ignore (tasks_of (view_of settings.old)) task condition) }
 {
     set_to(settings, task, condition, Setting::Ignore)
@@ -91,7 +86,6 @@ pub fn ignore(settings: &mut [u64], task: u64, condition: u8) -> Said
 // "10 condition above 10"
 pub fn reset(settings: &mut [u64], task: u64, condition: u8) -> Said
     ensures exact { (b : List ℕ) → gave result (view_of settings.new) b ≡ handed (reset_in (view_of settings.old) task condition) b }
-    ensures short { result.len ≤ 64 }
     ensures model { Obeys (view_of settings.old) task (told result [] (view_of settings.new)) (model.reset (tasks_of (view_of settings.old)) task condition) }
 {
     set_to(settings, task, condition, Setting::Unset)

@@ -4,8 +4,7 @@ ghost use Rattle.base.specs.Lists.{once};
 ghost use Rattle.settings.specs.Rows.{name_of};
 ghost use Rattle.settings.specs.Table.{view_of, rows_in, sound_h};
 
-use crate::ROW;
-use crate::names::count;
+use crate::names::{count, name_at};
 use crate::rows::place;
 use words::cells::word_at;
 
@@ -14,13 +13,10 @@ fn named_once(settings: &[u64], n: usize) -> bool
     requires { n ≤ rows_in (view_of settings.now) }
     ensures { result ≡ once (map name_of (take n (view_of settings.now).rows)) }
 {
-    let mut i: usize = 0;
-    while i < n {
-        let name = settings[i * ROW + 1];
-        if place(settings, i, name) < i {
+    for i in 0..n {
+        if place(settings, i, name_at(settings, i)).is_some() {
             return false;
         }
-        i += 1;
     }
     true
 }
@@ -29,8 +25,5 @@ pub fn sound(settings: &[u64]) -> bool
     ensures exact { result ≡ sound_h (view_of settings.now) }
 {
     let n = count(settings);
-    if (n as u64) < word_at(settings, 0) {
-        return false;
-    }
-    named_once(settings, n)
+    word_at(settings, 0) <= n as u64 && named_once(settings, n)
 }

@@ -5,7 +5,7 @@ use Prim.Native.Nat.{◌-◌, ◌^◌}
 use lib.Count.{ones, ones_in}
 use Rattle.slots.specs.Bits.{bit, with_bit, clear_from, lowest_clear, number, held, used_at, free_for, put, marked, cleared}
 use Rattle.slots.specs.declared.Used.{Used}
-use Rattle.slots.specs.declared.Slot.TheVariants.{At, Full}
+use Rattle.std.specs.Prelude.{Some, None}
 
 abbrev three : Used
 three = record { lo = 11; hi = 0 }
@@ -18,11 +18,11 @@ unfolding ones ones_in
 three_held = refl
 
 -- the lowest free slot is 2, for one who may fill more than three
-three_free : free_for 4 three ≡ At 2
+three_free : free_for 4 three ≡ Some 2
 unfolding free_for lowest_clear clear_from bit ones ones_in
 three_free = refl
 
-three_full : free_for 3 three ≡ Full
+three_full : free_for 3 three ≡ None
 unfolding free_for lowest_clear clear_from bit ones ones_in
 three_full = refl
 

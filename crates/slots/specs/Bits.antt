@@ -1,11 +1,9 @@
 -- The occupancy of the 128 slots: two words of 64 binary digits, read as one number of 128. Slot k is digit k, and it is in use
 -- where the digit is 1. These are the definitions that the contracts cite; each holds for every pair of numbers, words or not.
-use Rattle.std.specs.Prelude.{ℕ, zero, suc, ◌+◌, ◌-◌, ◌*◌, ◌/◌, ◌%◌, ◌^◌, Bool, ◌&&◌, eqb, ltb}
+use Rattle.std.specs.Prelude.{ℕ, zero, suc, ◌+◌, ◌-◌, ◌*◌, ◌/◌, ◌%◌, ◌^◌, Bool, ◌&&◌, eqb, ltb, Option, Some, None}
 use Rattle.std.specs.Int.Count.{ones}
 use Rattle.base.specs.Choice.{pick}
 use Rattle.slots.specs.declared.Used.{Used}
-use Rattle.slots.specs.declared.Slot.{Slot}
-use Rattle.slots.specs.declared.Slot.TheVariants.{At, Full}
 
 -- ---- of a number
 
@@ -44,8 +42,8 @@ unfoldable pub used_at : Used → ℕ → Bool
 used_at u k = ltb k 128 && eqb (bit (number u) k) 1
 
 -- the lowest free slot, where fewer are in use than may be, and not all 128
-unfoldable pub free_for : ℕ → Used → Slot
-free_for may u = pick (ltb (held u) may && ltb (held u) 128) (At (lowest_clear (number u) 128)) Full
+unfoldable pub free_for : ℕ → Used → Option ℕ
+free_for may u = pick (ltb (held u) may && ltb (held u) 128) (Some (lowest_clear (number u) 128)) None
 
 -- the words with slot k's digit made b; past the 128 there is none
 unfoldable pub put : Used → ℕ → ℕ → Used

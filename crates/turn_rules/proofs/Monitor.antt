@@ -7,8 +7,8 @@ use Rattle.model.specs.Commands.{issuer, formed, plain}
 use Rattle.model.specs.Demands.{Stepped, Monitor}
 use Rattle.model.specs.State.{empty_at}
 use Rattle.model.proofs.Laws.SoundStep.{empty_sound}
-use Rattle.request_rows.specs.declared.Task.{Task}
-use Rattle.request_rows.specs.declared.Task.TheVariants.{At, Nobody}
+use Rattle.std.specs.Prelude.{Option}
+use Rattle.std.specs.Prelude.{Some, None}
 use Rattle.turn_rules.specs.Tables.{Tables}
 use Rattle.turn_rules.specs.Turn.{sender_in, turn_of}
 use Rattle.turn_rules.specs.Standing.{StandsFor, sound_t, Typed, fresh_of, Sizes, limits, cabinet_sizes, Fit, Sized}
@@ -40,12 +40,12 @@ module _ {z : Sizes} (h : Held z) where
     went b = record { answer = (turn_of h.tables r).answer; tables = keeping (turn_of h.tables r).tables (turn_kept h.tables h.typed r b) }
 
     -- a record is bytes, and for what is none the demands ask nothing; then 32, 33 and 34 in their order
-    abbrev pub goes_by : (bytes : Bool) → is_bytes r ≡ bytes → (soundly form : Bool) → Task → Stepped (Held z)
+    abbrev pub goes_by : (bytes : Bool) → is_bytes r ≡ bytes → (soundly form : Bool) → Option ℕ → Stepped (Held z)
     goes_by false b soundly form x = stays 33
     goes_by true b false form x = stays 32
     goes_by true b true false x = stays 33
-    goes_by true b true true Nobody = stays 34
-    goes_by true b true true (At i) = went b
+    goes_by true b true true None = stays 34
+    goes_by true b true true (Some i) = went b
 
     unfoldable pub step_held : Stepped (Held z)
     step_held = goes_by (is_bytes r) refl (sound_t h.tables) (formed r) (sender_in h.tables.requests (issuer r))

@@ -1,4 +1,5 @@
 pub mod Tables
+pub mod Lent
 pub mod Ask
 pub mod Turn
 pub mod Standing

@@ -11,23 +11,25 @@ use Rattle.records.specs.Rows.{part_of}
 use Rattle.records.specs.declared.Part.{Part}
 use Rattle.records.specs.declared.Part.TheVariants as part
 use Rattle.request_rows.specs.Table.{Requests}
-use Rattle.request_rows.specs.declared.Task.{Task}
-use Rattle.request_rows.specs.declared.Task.TheVariants.{At, Nobody}
+use Rattle.std.specs.Prelude.{Option}
+use Rattle.std.specs.Prelude.{Some, None}
 use Rattle.request_rows.specs.Active.{task_in}
 use Rattle.request_rows.specs.Remove.{remove_at, remove_in}
 use Rattle.settings.specs.Decide.{decide_in}
 use Rattle.settings.specs.Forget.{forget_in}
 use Rattle.settings.specs.declared.Setting.{Setting}
 use Rattle.settings.specs.declared.Setting.TheVariants.{Unset, Ignore, Label}
-use Rattle.turn_rules.specs.declared.Verdict.{Verdict}
+use Rattle.frames.specs.declared.action.Action.{Action}
+use Rattle.frames.specs.declared.action.Action.TheVariants.{GoOn, GoTo, Abend}
+use Rattle.frames.specs.Action.{code_of, label_of}
 use Rattle.turn_rules.specs.Tables.{Tables, interval_in, with_interval, store_in, with_store, with_settings, Known, known, known_in, with_known}
 use Rattle.turn_rules.specs.Ask.{ask_interval, ask_queues, ask_settings}
 
 -- ---- who sends it
 
 -- the row of an active task; a blank issuer is the system, which has none and needs none
-unfoldable pub sender_in : Requests → ℕ → Task
-sender_in w k = pick (eqb k (blank 8)) (At 0) (task_in w k)
+unfoldable pub sender_in : Requests → ℕ → Option ℕ
+sender_in w k = pick (eqb k (blank 8)) (Some 0) (task_in w k)
 
 -- ---- the command
 
@@ -49,30 +51,27 @@ obeyed_in w p k i t r = pick (wrong_kind w k) (fault t invalid_request) (deed p 
 -- ---- the handlers
 
 pub record Settled : Type 0 where
-  pub verdict : Verdict
+  pub action : Action
   pub known : Known
 
-abbrev pub settled : Verdict → Known → Settled
-settled v w = record { verdict = v; known = w }
-
-abbrev pub verdict : ℕ → ℕ → Verdict
-verdict a l = record { action = a; label = l }
+abbrev pub settled : Action → Known → Settled
+settled a w = record { action = a; known = w }
 
 -- "Abend removes the task as finish does": the command may have moved its row, so it is found by its name
 abbrev pub decided_as : Known → ℕ → Setting → Settled
-decided_as v k Unset = settled (verdict 2 0) (known (remove_in v.requests k) (forget_in v.settings k))
-decided_as v k Ignore = settled (verdict 0 0) v
-decided_as v k (Label l) = settled (verdict 1 l) v
+decided_as v k Unset = settled Abend (known (remove_in v.requests k) (forget_in v.settings k))
+decided_as v k Ignore = settled GoOn v
+decided_as v k (Label l) = settled (GoTo l) v
 
 -- "When condition c of 1..10 arises for a task: setting c decides .. For the system the action is always 0."
 unfoldable pub settle_in : Known → ℕ → ℕ → Settled
-settle_in v k c = pick (eqb c normal || eqb k (blank 8)) (settled (verdict 0 0) v) (decided_as v k (decide_in v.settings k c))
+settle_in v k c = pick (eqb c normal || eqb k (blank 8)) (settled GoOn v) (decided_as v k (decide_in v.settings k c))
 
 -- ---- one record
 
 abbrev pub judged : Outcome Tables → Settled → Stepped Tables
 judged o v = record {
-  answer = record { condition = o.condition; action = v.verdict.action; label = v.verdict.label; number = o.number; bytes = o.bytes };
+  answer = record { condition = o.condition; action = code_of v.action; label = label_of v.action; number = o.number; bytes = o.bytes };
   tables = with_known o.state v.known;
 }
 
@@ -83,9 +82,9 @@ abbrev pub refused_in : Tables → ℕ → Stepped Tables
 refused_in t c = record { answer = plain c; tables = t }
 
 -- the row of the command is read once, and its columns are handed on
-abbrev pub heard_as : Who → Part → ℕ → Tables → List ℕ → Task → Stepped Tables
-heard_as w p k t r Nobody = refused_in t 34
-heard_as w p k t r (At i) = settled_of k (obeyed_in w p k i t r)
+abbrev pub heard_as : Who → Part → ℕ → Tables → List ℕ → Option ℕ → Stepped Tables
+heard_as w p k t r None = refused_in t 34
+heard_as w p k t r (Some i) = settled_of k (obeyed_in w p k i t r)
 
 unfoldable pub turn_of : Tables → List ℕ → Stepped Tables
 turn_of t r =

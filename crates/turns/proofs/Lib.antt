@@ -1,3 +1,1 @@
-pub mod Arms
-pub mod Obeying
 pub mod Turning

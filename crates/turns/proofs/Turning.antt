@@ -1,6 +1,6 @@
 -- One record: the head before the bytes that the command laid, and the ways of a record. Assumes nothing.
 use Prim.Native.Nat.{ℕ, ◌+◌, ◌<◌, ◌≤◌}
-use mathlib.Core.Path.{◌≡◌, sym, ap, ◌∙◌}
+use mathlib.Core.Path.{◌≡◌, sym, ap, ap₂, ◌∙◌}
 use mathlib.Core.Bool.{Bool, true, false}
 use mathlib.Core.List.{List, ◌++◌, append_assoc}
 use native.Mathlib.Omega.{arith}
@@ -18,11 +18,12 @@ use Rattle.frames.specs.Laws.Tails.{tail_of, put_tail, put_tail_lem, tail_length
 use Rattle.records.specs.Rows.{size_of, who_of, shaped_as, Columns}
 use Rattle.records.specs.Laws.{shaped_row}
 use Rattle.records.specs.declared.Row.{Row}
-use Rattle.request_rows.specs.declared.Task.{Task}
-use Rattle.request_rows.specs.declared.Task.TheVariants.{At, Nobody}
+use Rattle.std.specs.Prelude.{Option}
+use Rattle.std.specs.Prelude.{Some, None}
 use Rattle.words.specs.Said.{code_of, Gave, gave, handed}
 use Rattle.words.specs.declared.said.Said.{Said}
-use Rattle.turn_rules.specs.declared.Verdict.{Verdict}
+use Rattle.frames.specs.declared.action.Action.{Action}
+use Rattle.frames.specs.Action.{code_of as action_code, label_of}
 use Rattle.turn_rules.specs.Tables.{Tables, Known, known_in, with_known}
 use Rattle.turn_rules.specs.Turn.{sender_in, obeyed_in, Settled, settled, settle_in, settled_of, refused_in, heard_as, turn_of, Left, left, turned, turned_in}
 
@@ -55,13 +56,13 @@ head_before c a l m n bytes b y b' z h is e =
 
 -- ---- a record that is heard
 
-module _ (k : ℕ) (o : Outcome Tables) (b : List ℕ) (s : Said) (u : Tables) (y : List ℕ) (obeyed : gave s u y ≡ handed o (tail_of 10 b)) (short : s.len ≤ 64)
-    (c : ℕ) (ec : c ≡ code_of s.condition) (v : Verdict) (n : Known) (judged : settled v n ≡ settle_in (known_in u) k c) where
+module _ (k : ℕ) (o : Outcome Tables) (b : List ℕ) (s : Said) (u : Tables) (y : List ℕ) (obeyed : gave s u y ≡ handed o (tail_of 10 b))
+    (c : ℕ) (ec : c ≡ code_of s.condition) (v : Action) (n : Known) (judged : settled v n ≡ settle_in (known_in u) k c) where
   abbrev done : Gave Tables → Settled → Left
   done g σ =
       turned
       (record {
-        answer = answer g.condition σ.verdict.action σ.verdict.label g.number o.bytes;
+        answer = answer g.condition (action_code σ.action) (label_of σ.action) g.number o.bytes;
         tables = with_known g.state σ.known;
       })
       b
@@ -81,13 +82,14 @@ module _ (k : ℕ) (o : Outcome Tables) (b : List ℕ) (s : Said) (u : Tables) (
         ap (λ (g : Gave Tables). g.body) obeyed
         ∙ ap (λ (x : List ℕ). over x (tail_of 10 b)) (take_all (length (tail_of 10 b)) o.bytes (omega arith))
 
-    pub heard : (b' : List ℕ) → b' ≡ (written_over (head_of c v.action v.label s.number s.len) (put_tail 10 b y)).buffer
+    pub heard : (a l : ℕ) → a ≡ action_code v → l ≡ label_of v → (b' : List ℕ) → b' ≡ (written_over (head_of c a l s.number s.len) (put_tail 10 b y)).buffer
         → left (10 + s.len) (with_known u n) b' ≡ turned (settled_of k o) b
-    heard b' e =
-        let A : Answer = answer (code_of s.condition) v.action v.label s.number o.bytes in
-        let e' = e ∙ ap (λ (x : ℕ). (written_over (head_of x v.action v.label s.number s.len) (put_tail 10 b y)).buffer) ec in
+    heard a l ea el b' e =
+        let A : Answer = answer (code_of s.condition) (action_code v) (label_of v) s.number o.bytes in
+        let head = λ (x : ℕ) (a : ℕ) (l : ℕ). (written_over (head_of x a l s.number s.len) (put_tail 10 b y)).buffer in
+        let e' = e ∙ ap₂ (head c) ea el ∙ ap (λ (x : ℕ). head x (action_code v) (label_of v)) ec in
         let put : b' ≡ over (encoded A) b =
-        head_before (code_of s.condition) v.action v.label s.number s.len o.bytes b y b' size (omega arith) laid e' in
+        head_before (code_of s.condition) (action_code v) (label_of v) s.number s.len o.bytes b y b' size (omega arith) laid e' in
         let m : 10 + s.len ≡ length (encoded A) = let q = length_encoded A in let z = size in omega arith in
         ap (left (10 + s.len) (with_known u n)) put ∙ ap (λ (i : ℕ). left i (with_known u n) (over (encoded A) b)) m
         ∙ ap (done (gave s u y)) (judged ∙ ap (settle_in (known_in u) k) ec) ∙ ap done_all obeyed
@@ -115,13 +117,13 @@ module _ (t : Tables) (r b : List ℕ) (room : 74 ≤ length b) where
     pub malformed : (x : Left) → f ≡ false → x ≡ turned (refused_in t 33) b → x ≡ turned_in t r b
     malformed x h e = turned_as_lem x (refused_in t 33) (turn_malformed h) e
 
-    module _ (h : f ≡ true) (k : ℕ) (ek : k ≡ issuer r) (s : Task) (es : s ≡ sender_in t.requests k) where
+    module _ (h : f ≡ true) (k : ℕ) (ek : k ≡ issuer r) (s : Option ℕ) (es : s ≡ sender_in t.requests k) where
       turn_sent : turn_of t r ≡ heard_as (who_of w.1) w.2 k t r s
       unfolding turn_of
       turn_sent = rw (shape, h, es, ek, cs.who, cs.part, en)
 
-      pub stranger : (x : Left) → s ≡ Nobody → x ≡ turned (refused_in t 34) b → x ≡ turned_in t r b
+      pub stranger : (x : Left) → s ≡ None → x ≡ turned (refused_in t 34) b → x ≡ turned_in t r b
       stranger x z e = turned_as_lem x (refused_in t 34) (turn_sent ∙ ap (heard_as (who_of w.1) w.2 k t r) z) e
 
-      pub known : (x : Left) (i : ℕ) → s ≡ At i → x ≡ turned (settled_of k (obeyed_in (who_of w.1) w.2 k i t r)) b → x ≡ turned_in t r b
+      pub known : (x : Left) (i : ℕ) → s ≡ Some i → x ≡ turned (settled_of k (obeyed_in (who_of w.1) w.2 k i t r)) b → x ≡ turned_in t r b
       known x i z e = turned_as_lem x (settled_of k (obeyed_in (who_of w.1) w.2 k i t r)) (turn_sent ∙ ap (heard_as (who_of w.1) w.2 k t r) z) e

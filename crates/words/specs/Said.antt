@@ -1,5 +1,6 @@
 -- What a command says and leaves, beside the outcome that its definition gives.
-use Rattle.std.specs.Prelude.{ℕ, List, length, take}
+use Rattle.std.specs.Prelude.{ℕ, ◌≤◌, List, length, take}
+use Rattle.std.proofs.Common.{lit≤}
 use Rattle.base.specs.Lists.{over}
 use Rattle.model.specs.Plans.{normal, no_space, unknown_queue, no_such_item, wrong_length, unknown_program, unknown_terminal, not_unique, not_found, end_of_data, invalid_request, Outcome}
 use Rattle.words.specs.declared.said.Condition.{Condition}
@@ -19,8 +20,13 @@ code_of NotFound = not_found
 code_of EndOfData = end_of_data
 code_of InvalidRequest = invalid_request
 
-abbrev pub saying : Condition → ℕ → ℕ → Said
-saying c n k = record { condition = c; number = n; len = k }
+-- with k bytes, which are at most 64
+abbrev pub saying : Condition → ℕ → (k : ℕ) → k ≤ 64 → Said
+saying c n k h = record { condition = c; number = n; len = k; short = h }
+
+-- with no bytes
+abbrev pub plainly : Condition → ℕ → Said
+plainly c n = saying c n 0 (lit≤ tt)
 
 -- what is said, the tables as they are left, the body as it is left
 pub record Gave (S : Type 0) : Type 0 where

@@ -1,15 +1,15 @@
 -- What framing says of a list: the header's rules, the records, and that a reader from behind the header meets them. Assumes nothing.
 use Rattle.std.proofs.Math.Path.{◌≡◌, ap, sym}
-use Rattle.std.specs.Prelude.{refl, true, false, ◌&&◌, List, leb, eqb, length}
+use Rattle.std.specs.Prelude.{None, Some, refl, true, false, ◌&&◌, List, leb, eqb, length}
 use Rattle.std.proofs.Common.{◌∙◌, arith, leb-true, le-leb, eqb-true, eq-eqb}
 use Prim.Native.Nat.{ℕ, ◌+◌, ◌≤◌}
 use Rattle.base.specs.Bytes.{num}
 use Rattle.base.specs.Laws.Tests.{by_test, and_l, and_r, and_i, is_false}
 use Rattle.model.specs.Lists.{Framed, bad, good, headed, framed}
-use Rattle.frames.specs.Framing.{framing}
+use Rattle.frames.specs.Framing.{accepted, framing}
+use Rattle.frames.specs.declared.framing.Framed.{Framed as Accepted}
 use Rattle.frames.specs.Reading.{left, listed, records_from, Filled}
 use Rattle.frames.specs.Laws.Records.{started, left_started}
-use Rattle.frames.specs.declared.framing.Framing.TheVariants.{Refused, Framed as Accepted}
 
 -- what `headed` says
 pub record Headed (l : List ℕ) : Type 0 where
@@ -74,20 +74,21 @@ module _ (l : List ℕ) (v : ℕ) where
       (λ t. let b : framed l ≡ bad = framed_bad l t in let z : ◌≡◌ {A = ℕ} 0 1 = cc in absurd (omega arith))
 
   -- by what `frame` answers
-  pub accepted_told : (n : ℕ) → Accepted n v ≡ framing (framed l) → IsFramed l v × (n ≡ length (records_from l 9))
+  pub accepted_told : (n : ℕ) → Some (accepted n v) ≡ framing (framed l) → IsFramed l v × (n ≡ length (records_from l 9))
   accepted_told n q = by (framed l) refl q
     where
-      by : (x : Framed) → framed l ≡ x → Accepted n v ≡ framing x → IsFramed l v × (n ≡ length (records_from l 9))
+      by : (x : Framed) → framed l ≡ x → Some (accepted n v) ≡ framing x → IsFramed l v × (n ≡ length (records_from l 9))
       by bad e q = let z : ◌≡◌ {A = ℕ} 0 1 = cc in absurd (omega arith)
       by (good u rs) e q =
-          let uv : u ≡ v = cc in
+          let both : accepted n v ≡ accepted (length rs) u = cc in
+          let uv : u ≡ v = sym (ap (λ (x : Accepted). x.start) both) in
           let g = framed_told rs (e ∙ ap (λ (k : ℕ). good k rs) uv) in
-          let n-is : n ≡ length rs = cc in
+          let n-is : n ≡ length rs = ap (λ (x : Accepted). x.records) both in
           (g.0, n-is ∙ ap length (sym g.1))
 
-pub refused_told : (l : List ℕ) → Refused ≡ framing (framed l) → framed l ≡ bad
+pub refused_told : (l : List ℕ) → None ≡ framing (framed l) → framed l ≡ bad
 refused_told l q = by (framed l) refl q
   where
-    by : (x : Framed) → framed l ≡ x → Refused ≡ framing x → framed l ≡ bad
+    by : (x : Framed) → framed l ≡ x → None ≡ framing x → framed l ≡ bad
     by bad e q = e
     by (good u rs) e q = let z : ◌≡◌ {A = ℕ} 0 1 = cc in absurd (omega arith)

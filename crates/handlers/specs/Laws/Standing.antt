@@ -5,7 +5,7 @@ use Rattle.std.proofs.Math.Path.{sym, ap}
 use Rattle.std.proofs.Common.{◌∙◌, arith, length-take}
 use mathlib.Core.List.{List, ◌∷◌, map, map-map}
 use Rattle.std.proofs.Math.Dec.{eqb}
-use Rattle.std.proofs.Math.ListN.{take, length-map}
+use Rattle.std.proofs.Math.ListN.{length-map}
 use borrow.Author.Tests.{leb-true, le-leb, lt-ltb}
 use Rattle.base.specs.Lists.{any, has, once, within}
 use Rattle.base.specs.Laws.Tests.{by_test, and_l, and_r, and_i, or_l, or_r}
@@ -55,10 +55,8 @@ module _ (t : Tasks) where
   few s = omega (arith, length_stands, length-take t.count t.rows, count_fits s)
 
   -- the names that are handed out
-  pub names_listed : take (names_in t).count (names_in t).list ≡ map (λ (m : model.Task). m.name) (tasks_of t)
-  unfolding names_in
-  names_listed =
-      ap (λ (k : ℕ). take k (names_in t).list) (sym (length-map (live t) name_of)) ∙ take_over (map name_of (live t)) _ ∙ sym names_stand
+  pub names_listed : names_in t ≡ map (λ (m : model.Task). m.name) (tasks_of t)
+  names_listed = sym names_stand
 
   -- ---- other live rows
   pub live_stands : (l : List Task) → tasks_of (with_live t l) ≡ map task_of l

@@ -1,5 +1,6 @@
 -- Cancelling is what the model does. Assumes nothing.
-use Rattle.std.specs.Prelude.{◌≡◌, ℕ, ◌<◌, Bool, true, false, not, ◌||◌, [], ◌==◌, slice_index_or}
+use Rattle.std.specs.Prelude.{◌≡◌, ℕ, ◌<◌, Bool, true, false, not, ◌||◌, [], ◌==◌, slice_index_or, Some, None, Ok, Err}
+use Rattle.std.specs.List.{position}
 use Rattle.std.proofs.Math.Path.{sym}
 use Rattle.std.proofs.Common.{ap, ◌∙◌, arith, length-take, get_or-take, eq-eqb, ne_eqb}
 use Rattle.base.specs.Lists.{any, first, first_at, cut_at}
@@ -12,15 +13,16 @@ use Rattle.model.specs.Plans.{Outcome, first_of, obey}
 use Rattle.model.specs.Interval as model
 use Rattle.model.proofs.Laws.SoundInterval.{cancel_sound}
 use Rattle.interval.specs.declared.Requests.{Requests}
-use Rattle.interval.specs.declared.answers.Cancelled.{Cancelled}
 use Rattle.interval.specs.Table.{live, with_live}
 use Rattle.interval.specs.Stands.{interval_at, Means, sound_r, Done}
 use Rattle.interval.specs.Rows.{active, named, out_row}
 use Rattle.interval.specs.Cancel.{cancel_in, cancel_gives, cancelled}
-use Rattle.interval.specs.declared.answers.Cancel.TheVariants as answers
+use Rattle.interval.specs.declared.answers.CancelError.TheVariants as answers
+use Rattle.interval.specs.Answers.{Cancelled}
 use Rattle.interval.specs.Laws.Ties.{Small, small, finish}
 use Rattle.interval.proofs.Laws.Standing.{name_of, known_at, task_at, names_once, cut_small}
 use Rattle.interval.proofs.Laws.Remove.{cut_stands}
+use Rattle.interval.proofs.Places.{placed, nowhere}
 
 abbrev CancelDone : ℕ → Requests → ℕ → Cancelled → Type 0
 CancelDone c t n r = Done c c t r.requests (model.cancel (interval_at c t) n) (cancel_gives r.outcome) 0 []
@@ -74,28 +76,28 @@ module _ (c : ℕ) (t : Requests) (n : ℕ) (m : Means t c) (s : sound_r t ≡ t
 
 -- ---- both clauses
 
-abbrev pub CancelBoth : Requests → ℕ → Cancelled → Type 0
-CancelBoth t n r = (r ≡ cancel_in t n) × ((c : ℕ) → Means t c → sound_r t ≡ true → CancelDone c t n r)
+pub cancel_both : (t : Requests) (n : ℕ) (r : Cancelled) → r ≡ cancel_in t n
+    → (r ≡ cancel_in t n) × ((c : ℕ) → Means t c → sound_r t ≡ true → CancelDone c t n r)
+cancel_both t n r e = (e, λ c m s. rw e (cancel_done c t n m s))
+
+-- ---- the code's ends
 
 module _ (t : Requests) (n : ℕ) where
-  cancel_both : (r : Cancelled) → r ≡ cancel_in t n → CancelBoth t n r
-  cancel_both r e = (e, λ c m s. rw e (cancel_done c t n m s))
-
-  pub cancel_blank : n ≡ blank 8 → CancelBoth t n (cancelled t answers.Invalid)
+  pub cancel_blank : n ≡ blank 8 → cancelled t (Err answers.Invalid) ≡ cancel_in t n
   unfolding cancel_in
-  cancel_blank e = cancel_both (cancelled t answers.Invalid) (rw (eq-eqb n (blank 8) e))
+  cancel_blank e = rw (eq-eqb n (blank 8) e)
 
   module _ (ne : n ≡ blank 8 → ⊥) where
-    pub cancel_missing : any (named n) (live t) ≡ false → CancelBoth t n (cancelled t answers.NotFound)
+    pub cancel_missing : None ≡ position (named n) (live t) → cancelled t (Err answers.NotFound) ≡ cancel_in t n
     unfolding cancel_in
-    cancel_missing h = cancel_both (cancelled t answers.NotFound) (rw (ne_eqb n (blank 8) ne, h))
+    cancel_missing e = rw (ne_eqb n (blank 8) ne, nowhere (named n) (live t) e)
 
-    module _ (h : any (named n) (live t) ≡ true) (i : ℕ) (ei : i ≡ first_at (named n) (live t)) where
-      pub cancel_active : active (slice_index_or t.rows i out_row) ≡ true → CancelBoth t n (cancelled t answers.NotFound)
+    module _ (i : ℕ) (e : Some i ≡ position (named n) (live t)) where
+      pub cancel_active : active (slice_index_or t.rows i out_row) ≡ true → cancelled t (Err answers.NotFound) ≡ cancel_in t n
       unfolding cancel_in
-      cancel_active a = cancel_both (cancelled t answers.NotFound) (rw (ne_eqb n (blank 8) ne, h, sym ei, a))
+      cancel_active a = let p = placed (named n) (live t) i e in rw (ne_eqb n (blank 8) ne, p.0, sym p.1, a)
 
       pub cancel_hit : active (slice_index_or t.rows i out_row) ≡ false → (u : Requests) → u ≡ with_live t (cut_at i (live t))
-          → CancelBoth t n (cancelled u answers.Done)
+          → cancelled u (Ok tt) ≡ cancel_in t n
       unfolding cancel_in
-      cancel_hit a u eu = cancel_both (cancelled u answers.Done) (rw (ne_eqb n (blank 8) ne, h, sym ei, a, eu))
+      cancel_hit a u eu = let p = placed (named n) (live t) i e in rw (ne_eqb n (blank 8) ne, p.0, sym p.1, a, eu)

@@ -1,5 +1,6 @@
 -- Dispatching is what the model does: the first that is ready stands, in the line, behind those that were passed. Assumes nothing.
-use Rattle.std.specs.Prelude.{◌≡◌, ℕ, ◌<◌, Bool, true, false, ◌&&◌, List, ◌++◌, map, length, get_or, take, ◌==◌, nat_eq, slice_index_or, refl}
+use Rattle.std.specs.Prelude.{◌≡◌, ℕ, ◌<◌, Bool, true, false, ◌&&◌, List, ◌++◌, map, length, get_or, take, ◌==◌, nat_eq, slice_index_or, refl, Some, None}
+use Rattle.std.specs.List.{position, count_by}
 use Rattle.std.proofs.Math.Path.{sym, ap}
 use Rattle.std.proofs.Common.{ap₂, ◌∙◌, arith}
 use Rattle.std.proofs.Math.ListN.{length-map}
@@ -16,17 +17,18 @@ use Rattle.model.proofs.Laws.SoundDispatch.{dispatch_sound}
 use Rattle.interval.specs.declared.Request.{Request}
 use Rattle.interval.specs.declared.Requests.{Requests}
 use Rattle.interval.specs.declared.Phase.TheVariants.{Active}
-use Rattle.interval.specs.declared.answers.Dispatch.TheVariants.{Started, Nothing}
 use Rattle.interval.specs.declared.answers.Dispatched.{Dispatched}
 use Rattle.interval.specs.Table.{live, in_phase}
 use Rattle.interval.specs.Stands.{request_at, interval_at, Means, sound_r, Done}
 use Rattle.interval.specs.Rows.{expired, active, out_row, no_row, with_row}
-use Rattle.interval.specs.Dispatch.{At, None, dispatch_gives, dispatch_number, dispatch_bytes, program_of, terminal_of, ready, passed_by, pick_in, dispatched, dispatched_row, dispatch_in}
+use Rattle.interval.specs.Dispatch.{At, Nothing, dispatch_gives, dispatch_bytes, program_of, terminal_of, ready, passed_by, pick_in, dispatched, dispatched_row, dispatch_in}
 use Rattle.interval.specs.Laws.Ties.{Small, small, finish}
+use Rattle.interval.proofs.Busy.{line_is}
+use Rattle.interval.proofs.Places.{placed, nowhere}
 use Rattle.interval.proofs.Laws.Standing.{active_at, expired_at, turned, turned_small, read_row}
 
 abbrev DispatchDone : ℕ → Requests → Dispatched → Type 0
-DispatchDone c t r = Done c c t r.requests (model.dispatch (interval_at c t)) (dispatch_gives r.outcome) (dispatch_number r.outcome) (dispatch_bytes r.outcome)
+DispatchDone c t r = Done c c t r.requests (model.dispatch (interval_at c t)) (dispatch_gives r.started) r.passed (dispatch_bytes r.started)
 
 module _ (c : ℕ) (t : Requests) where
   abbrev at : Request → model.Request
@@ -98,7 +100,7 @@ module _ (c : ℕ) (t : Requests) where
   unfolding dispatch_in pick_in
   dispatched_as h = rw h (ap (λ (q : Request). dispatched_row t j q (passed_by j l)) (read_row t j (first_at_lt (ready l) l h)))
 
-  nothing_as : any (ready l) l ≡ false → dispatch_in t ≡ dispatched t (None (length (keep expired l)))
+  nothing_as : any (ready l) l ≡ false → dispatch_in t ≡ dispatched t (Nothing (length (keep expired l)))
   unfolding dispatch_in pick_in
   nothing_as h = rw h
 
@@ -106,7 +108,7 @@ module _ (c : ℕ) (t : Requests) where
 
   abbrev Told : Dispatched → Type 0
   Told r = ◌≡◌ {A = Outcome model.Interval}
-      (record { condition = dispatch_gives r.outcome; number = dispatch_number r.outcome; bytes = dispatch_bytes r.outcome; state = interval_at c r.requests })
+      (record { condition = dispatch_gives r.started; number = r.passed; bytes = dispatch_bytes r.started; state = interval_at c r.requests })
       (obey i (first_of (model.dispatch i).checks) (model.dispatch i).effect)
 
   module _ (m : Means t c) (s : sound_r t ≡ true) where
@@ -121,7 +123,7 @@ module _ (c : ℕ) (t : Requests) where
           state = x;
         }) (turned c t m s j false (first_at_lt (ready l) l h)))
 
-    none_starts : any (ready l) l ≡ false → Told (dispatched t (None (length (keep expired l))))
+    none_starts : any (ready l) l ≡ false → Told (dispatched t (Nothing (length (keep expired l))))
     unfolding model.dispatch
     none_starts h = rw (any_at, line_at, h)
 
@@ -130,7 +132,7 @@ module _ (c : ℕ) (t : Requests) where
 
     good : (r : Dispatched) → Told r → Means r.requests c → Small r.requests → Good r
     good r e m' h =
-        finish c c t r.requests (model.dispatch i) (dispatch_gives r.outcome) (dispatch_number r.outcome) (dispatch_bytes r.outcome) m s e
+        finish c c t r.requests (model.dispatch i) (dispatch_gives r.started) r.passed (dispatch_bytes r.started) m s e
         (λ k f. dispatch_sound cabinet i k f) m' h
 
     dispatch_done : Good (dispatch_in t)
@@ -138,7 +140,7 @@ module _ (c : ℕ) (t : Requests) where
         by_test (any (ready l) l)
         (λ h. rw (dispatched_as h)
         (good (dispatched_row t j there (passed_by j l)) (starts h) m (turned_small t (small t s) j false (first_at_lt (ready l) l h))))
-        (λ h. rw (nothing_as h) (good (dispatched t (None (length (keep expired l)))) (none_starts h) m (small t s)))
+        (λ h. rw (nothing_as h) (good (dispatched t (Nothing (length (keep expired l)))) (none_starts h) m (small t s)))
 
 -- ---- both clauses
 
@@ -156,20 +158,32 @@ pick_below t i k e =
     let same : first_at (ready (live t)) (live t) ≡ i = cc in
     omega (arith, first_at_lt (ready (live t)) (live t) h))
     (λ h.
-    let g : None (length (keep expired (live t))) ≡ At i k = rw h at e in
+    let g : Nothing (length (keep expired (live t))) ≡ At i k = rw h at e in
     let z : ◌≡◌ {A = ℕ} 0 1 = cc in
     absurd (omega arith))
 
--- the code's two ends
-module _ (t : Requests) where
-  pub dispatch_hit : (i k : ℕ) → pick_in (live t) ≡ At i k → (p : Request) → p ≡ in_phase (Active false) (slice_index_or t.rows i out_row)
-      → record { requests = with_row t i p; outcome = Started (get_or t.rows i out_row).name (get_or t.rows i out_row).program (get_or t.rows i out_row).terminal k } ≡ dispatch_in t
-  unfolding dispatch_in
-  dispatch_hit i k e p ep =
-      let q : Request = get_or t.rows i out_row in
-      ap (λ (x : Request). record { requests = with_row t i x; outcome = Started q.name q.program q.terminal k }) ep
-      ∙ sym (ap (dispatched t) e)
+-- ---- the code's two ends
 
-  pub dispatch_none : (k : ℕ) → pick_in (live t) ≡ None k → record { requests = t; outcome = Nothing k } ≡ dispatch_in t
-  unfolding dispatch_in
-  dispatch_none k e = sym (ap (dispatched t) e)
+module _ (t : Requests) where
+  abbrev here : ℕ → Requests → Request → Request → Dispatched
+  here k u p q = record { requests = u; passed = k; started = Some (record { name = q.name; program = q.program; terminal = q.terminal }) }
+
+  hit : (i : ℕ) → Some i ≡ position (ready (live t)) (live t)
+      → dispatched_row t i (slice_index_or (live t) i out_row) (count_by expired (take i (live t))) ≡ dispatch_in t
+  unfolding dispatch_in pick_in
+  hit i ei =
+      let h = placed (ready (live t)) (live t) i ei in
+      let there : i < length (live t) = rw h.1 (first_at_lt (ready (live t)) (live t) h.0) in
+      rw (h.0, sym h.1, line_is (take i (live t)), read_row t i there)
+
+  module _ (rows : List Request) (er : rows ≡ live t) where
+    pub dispatch_hit : (i : ℕ) → Some i ≡ position (ready rows) rows → (k : ℕ) → k ≡ count_by expired (take i rows)
+        → (p : Request) → p ≡ in_phase (Active false) (get_or rows i out_row) → here k (with_row t i p) p (get_or rows i out_row) ≡ dispatch_in t
+    dispatch_hit i ei k ek p ep =
+        rw (ek, ep, er) (hit i (rw er at ei))
+
+    pub dispatch_none : None ≡ position (ready rows) rows → (k : ℕ) → k ≡ count_by expired rows → record { requests = t; passed = k; started = None } ≡ dispatch_in t
+    unfolding dispatch_in pick_in
+    dispatch_none e k ek =
+        let none : None ≡ position (ready (live t)) (live t) = rw er at e in
+        rw (nowhere (ready (live t)) (live t) none, ek, er, line_is (live t))

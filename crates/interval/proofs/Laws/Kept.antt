@@ -1,6 +1,6 @@
 -- What the struct's type says, the lengths of the arrays and the widths of the numbers, is so of fresh tables; each exact definition keeps it,
 -- of sound tables and of others, and so does any number of them. Assumes nothing.
-use Rattle.std.specs.Prelude.{◌≡◌, ℕ, suc, ◌^◌, ◌<◌, ◌≤◌, Bool, true, false, not, ◌&&◌, ◌||◌, List, [], ◌∷◌, ◌++◌, map, length, take, drop, replicate, ◌==◌, nat_lt, slice_index_or}
+use Rattle.std.specs.Prelude.{◌≡◌, ℕ, suc, ◌^◌, ◌<◌, ◌≤◌, Bool, true, false, not, ◌&&◌, ◌||◌, List, [], ◌∷◌, ◌++◌, map, length, take, drop, replicate, ◌==◌, nat_lt, is_ok, slice_index_or}
 use Rattle.std.proofs.Math.Path.{refl}
 use Rattle.std.proofs.Common.{◌∙◌, arith, length-take, length-drop, length-set, lt-ltb, eq-eqb}
 use Rattle.std.proofs.Math.ListN.{length-append}
@@ -18,9 +18,7 @@ use Rattle.interval.specs.declared.Phase.{Phase}
 use Rattle.interval.specs.declared.Phase.TheVariants.{Waiting, Expired, Active}
 use Rattle.interval.specs.declared.Request.{Request}
 use Rattle.interval.specs.declared.Requests.{Requests}
-use Rattle.interval.specs.declared.advance.Advanced.{Advanced}
-use Rattle.interval.specs.declared.answers.Cancelled.{Cancelled}
-use Rattle.interval.specs.declared.answers.Retrieved.{Retrieved}
+use Rattle.interval.specs.Answers.{Advanced, Cancelled, Retrieved}
 use Rattle.interval.specs.Circle.{after}
 use Rattle.interval.specs.Laws.Circle.{after_lt}
 use Rattle.interval.specs.Table.{live, with_live, in_phase}
@@ -29,7 +27,7 @@ use Rattle.interval.specs.Typed.{word, typed_phase, typed_rest, typed_row, Typed
 use Rattle.interval.specs.Advance.{due_in, no_later, newly, lapse, moved, advance_of}
 use Rattle.interval.specs.Cancel.{cancel_in}
 use Rattle.interval.specs.Define as define
-use Rattle.interval.specs.Dispatch.{Picked, At, None, pick_in, dispatched, dispatch_in}
+use Rattle.interval.specs.Dispatch.{Picked, At, Nothing, pick_in, dispatched, dispatch_in}
 use Rattle.interval.specs.Fresh.{fresh_at}
 use Rattle.interval.specs.Remove.{remove_in}
 use Rattle.interval.specs.Retrieve.{has_own, serves, task_of, retrieve_in}
@@ -144,7 +142,7 @@ module _ (t : Requests) (y : Typed t) where
   define_typed most count l put n w long each f =
       let known : List ℕ = take count l in
       let more : List ℕ = known ++ (n ∷ []) in
-      pick_elim Typed (define.is_done (define.ruling most known n)) (put (length more) (over more l)) t
+      pick_elim Typed (is_ok (define.ruling most known n)) (put (length more) (over more l)) t
       (λ e.
       let few : length more ≤ most = simp length-append (omega (arith, defines.room most known n e)) in
       f (length more) (over more l) few (length_over more l (omega (arith, long)) ∙ long)
@@ -201,17 +199,17 @@ module _ (t : Requests) (y : Typed t) where
         row_typed i (in_phase (Active false) (slice_index_or t.rows i out_row))
         (in_phase_lem (Active false) (slice_index_or t.rows i out_row) refl
         (all_get_d typed_row t.rows i out_row y.each_row (omega (arith, pick_below t i k e, live_few, y.rows))))
-    by (None k) e = y
+    by (Nothing k) e = y
 
   pub start_typed : (a : model.Asked) → in_range (Start a) ≡ true → Typed (start.start_in t a).requests
   unfolding start.start_in
   start_typed a h =
-      starts.if_done_elim Typed (start.ruled t a) (with_live t (live t ++ (start.new_row t.register a ∷ []))) t
+      pick_elim Typed (is_ok (start.ruled t a)) (with_live t (live t ++ (start.new_row t.register a ∷ []))) t
       (λ e.
       let f = starts.facts t a e in
       moved_typed t.register (live t ++ (start.new_row t.register a ∷ [])) y.register (simp length-append (omega (arith, f.room)))
       (all_snoc typed_row (live t) (start.new_row t.register a) live_typed (new_typed t.register a h f.fits)))
-      y
+      (λ _. y)
 
   pub cancel_typed : (n : ℕ) → Typed (cancel_in t n).requests
   unfolding cancel_in

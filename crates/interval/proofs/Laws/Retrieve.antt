@@ -1,8 +1,9 @@
 -- Retrieving is what the model does: the own data once, else those of the first that serves, which goes. Assumes nothing.
-use Rattle.std.specs.Prelude.{◌≡◌, ℕ, min, Bool, true, false, List, length, get_or, take, ◌==◌, nat_lt, slice_index_or, refl}
-use Rattle.std.proofs.Common.{sym, ap, ◌∙◌, arith, length-take, take-take, eqb-true}
+use Rattle.std.specs.Prelude.{◌≡◌, ℕ, min, Bool, true, false, List, length, get_or, take, ◌==◌, nat_lt, slice_index_or, Some, None, refl}
+use Rattle.std.specs.List.{position}
+use Rattle.std.proofs.Common.{sym, ap, ◌∙◌, arith, length-take, take-take, eqb-true, lt-ltb, le-ltb, ltb-true, ltb-false}
 use Rattle.base.specs.Lists.{any, first, first_at, cut_at}
-use Rattle.base.specs.Laws.Tests.{by_test, no, pick_map}
+use Rattle.base.specs.Laws.Tests.{by_test, no}
 use Rattle.base.specs.Laws.Keep.{first_at_lt, first_passes, first_none, get_d_first_at, first_default}
 use Rattle.base.specs.Laws.Maps.{any_map, first_map}
 use Rattle.base.specs.Laws.Scans.{take_least}
@@ -13,14 +14,13 @@ use Rattle.model.proofs.Laws.SoundDispatch.{retrieve_sound}
 use Rattle.interval.specs.declared.Phase.TheVariants.{Active}
 use Rattle.interval.specs.declared.Request.{Request}
 use Rattle.interval.specs.declared.Requests.{Requests}
-use Rattle.interval.specs.declared.answers.Retrieve.{Retrieve}
-use Rattle.interval.specs.declared.answers.Retrieve.TheVariants.{Given, Cut}
-use Rattle.interval.specs.declared.answers.Retrieved.{Retrieved}
+use Rattle.interval.specs.Answers.{Retrieved}
 use Rattle.interval.specs.Table.{live, with_live, in_phase}
 use Rattle.interval.specs.Stands.{request_at, interval_at, Means, sound_r, Done}
 use Rattle.interval.specs.Rows.{named, data_of, out_row, no_row, with_row}
-use Rattle.interval.specs.Retrieve.{retrieve_gives, has_own, serves, cut_of, handed, nothing, task_of, retrieve_in}
+use Rattle.interval.specs.Retrieve.{retrieve_gives, retrieve_number, retrieve_bytes, has_own, serves, handed, nothing, task_of, retrieve_in}
 use Rattle.interval.specs.Laws.Ties.{Small, small, finish}
+use Rattle.interval.proofs.Places.{placed, nowhere}
 use Rattle.interval.proofs.Laws.Standing.{name_of, expired_at, taken_at, turned, turned_small, read_row, cut_small}
 use Rattle.interval.proofs.Laws.Remove.{cut_stands_at}
 
@@ -32,6 +32,13 @@ given_bytes k room b =
     let n = length-take k b in
     let e : min (length (take k b)) room ≡ min room (length (take k b)) = omega arith in
     sym (take-take (min (length d) room) k b (omega arith)) ∙ ap (λ (j : ℕ). take j d) e ∙ take_least room d
+
+-- cut where there is not room for all
+cut_where : (full room : ℕ) → nat_lt (min full room) full ≡ nat_lt room full
+cut_where full room =
+    by_test (nat_lt room full)
+    (λ t. lt-ltb (min full room) full (omega (arith, ltb-true room full t)) ∙ sym t)
+    (λ t. le-ltb (min full room) full (omega (arith, ltb-false room full t)) ∙ sym t)
 
 -- ---- the task's own request
 
@@ -59,7 +66,7 @@ module _ (t : Requests) (n : ℕ) where
 
 abbrev RetrieveDone : ℕ → Requests → ℕ → ℕ → Retrieved → Type 0
 RetrieveDone c t n room r =
-    Done c c t r.requests (model.retrieve (interval_at c t) n room) (retrieve_gives r.outcome) r.full (take r.len r.bytes)
+    Done c c t r.requests (model.retrieve (interval_at c t) n room) (retrieve_gives r.outcome) (retrieve_number r.outcome) (retrieve_bytes r.outcome)
 
 module _ (c : ℕ) (t : Requests) (n room : ℕ) where
   abbrev at : Request → model.Request
@@ -99,14 +106,14 @@ module _ (c : ℕ) (t : Requests) (n room : ℕ) where
 
   abbrev Told : Retrieved → Type 0
   Told r = ◌≡◌ {A = Outcome model.Interval}
-      (record { condition = retrieve_gives r.outcome; number = r.full; bytes = take r.len r.bytes; state = interval_at c r.requests })
+      (record { condition = retrieve_gives r.outcome; number = retrieve_number r.outcome; bytes = retrieve_bytes r.outcome; state = interval_at c r.requests })
       (obey i (first_of (model.retrieve i n room).checks) (model.retrieve i n room).effect)
 
   handed_as : (u : Requests) (x : Request) (s : model.Interval) → interval_at c u ≡ s → ◌≡◌ {A = Outcome model.Interval}
-      (record { condition = retrieve_gives (handed u x room).outcome; number = (handed u x room).full; bytes = take (handed u x room).len x.bytes; state = interval_at c u })
+      (record { condition = retrieve_gives (handed u x room).outcome; number = retrieve_number (handed u x room).outcome; bytes = retrieve_bytes (handed u x room).outcome; state = interval_at c u })
       (cut s room (data_of x))
   handed_as u x s e =
-      rw (pick_map retrieve_gives (nat_lt room (length (data_of x))) Cut Given, given_bytes x.len room x.bytes, e)
+      rw (cut_where (length (data_of x)) room, given_bytes x.len room x.bytes, e)
 
   abbrev own : Requests
   own = with_row t (first_at (named n) l) (in_phase (Active true) q)
@@ -148,7 +155,7 @@ module _ (c : ℕ) (t : Requests) (n room : ℕ) where
 
     good : (r : Retrieved) → Told r → Means r.requests c → Small r.requests → RetrieveDone c t n room r
     good r e m' h =
-        finish c c t r.requests (model.retrieve i n room) (retrieve_gives r.outcome) r.full (take r.len r.bytes) m s e
+        finish c c t r.requests (model.retrieve i n room) (retrieve_gives r.outcome) (retrieve_number r.outcome) (retrieve_bytes r.outcome) m s e
         (λ k f. retrieve_sound cabinet i k n room f) m' h
 
     own_small : has_own q ≡ true → Small own
@@ -180,20 +187,36 @@ module _ (t : Requests) (n room : ℕ) where
   abbrev pub serving : Request → Bool
   serving x = serves task.program task.terminal x
 
-  pub retrieve_own : has_own task ≡ true → (i : ℕ) → i ≡ first_at (named n) (live t) → (p : Request) → p ≡ in_phase (Active true) task
-      → handed (with_row t i p) task room ≡ retrieve_in t n room
-  unfolding retrieve_in
-  retrieve_own h i ei p ep = rw (h, ei, ep)
+  -- the task's own request, where it is there, and where it is not
+  pub own_row : (i : ℕ) → Some i ≡ position (named n) (live t) → slice_index_or t.rows i out_row ≡ task
+  own_row i e = let p = placed (named n) (live t) i e in task_row t n i p.1 p.0
 
-  pub retrieve_served : has_own task ≡ false → any serving (live t) ≡ true → (j : ℕ) → j ≡ first_at serving (live t) → (u : Requests) → u ≡ with_live t (cut_at j (live t))
-      → handed u (slice_index_or t.rows j out_row) room ≡ retrieve_in t n room
-  unfolding retrieve_in
-  retrieve_served h a j ej u eu = rw (h, a, eu, ej)
+  pub own_none : None ≡ position (named n) (live t) → no_row ≡ task
+  own_none e = no_task t n (nowhere (named n) (live t) e)
 
-  pub retrieve_nothing : has_own task ≡ false → any serving (live t) ≡ false → nothing t ≡ retrieve_in t n room
+  pub retrieve_own : (i : ℕ) → Some i ≡ position (named n) (live t) → has_own (slice_index_or t.rows i out_row) ≡ true
+      → (p : Request) → p ≡ in_phase (Active true) (slice_index_or t.rows i out_row)
+      → handed (with_row t i p) (slice_index_or t.rows i out_row) room ≡ retrieve_in t n room
   unfolding retrieve_in
-  retrieve_nothing h a = rw (h, a)
+  retrieve_own i ei h p ep =
+      let is : slice_index_or t.rows i out_row ≡ task = own_row i ei in
+      let own : has_own task ≡ true = ap has_own (sym is) ∙ h in
+      rw (ep, is, own, (placed (named n) (live t) i ei).1)
 
-pub handing : (u : Requests) (q : Request) (room : ℕ) (o : Retrieve) (full len : ℕ) → full ≡ length (data_of q) → o ≡ cut_of full room → len ≡ min full room
-    → record { requests = u; outcome = o; full = full; len = len; bytes = q.bytes } ≡ handed u q room
-handing u q room o full len ef eo el = rw (eo, el, ef)
+  -- q is the task's request
+  module _ (q : Request) (is : q ≡ task) (h : has_own q ≡ false) where
+    not_own : has_own task ≡ false
+    not_own = ap has_own (sym is) ∙ h
+
+    pub retrieve_served : (j : ℕ) → Some j ≡ position (serves q.program q.terminal) (live t) → (u : Requests) → u ≡ with_live t (cut_at j (live t))
+        → handed u (slice_index_or t.rows j out_row) room ≡ retrieve_in t n room
+    unfolding retrieve_in
+    retrieve_served j ej u eu =
+        let p = placed serving (live t) j (ej ∙ ap (λ (x : Request). position (serves x.program x.terminal) (live t)) is) in
+        rw (not_own, p.0, eu, p.1)
+
+    pub retrieve_nothing : None ≡ position (serves q.program q.terminal) (live t) → nothing t ≡ retrieve_in t n room
+    unfolding retrieve_in
+    retrieve_nothing e =
+        let none = nowhere serving (live t) (e ∙ ap (λ (x : Request). position (serves x.program x.terminal) (live t)) is) in
+        rw (not_own, none)

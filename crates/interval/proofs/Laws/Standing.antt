@@ -1,19 +1,18 @@
 -- What the parts of the struct stand for in the model: names, phases, other live rows, another row. Assumes nothing.
-use Rattle.std.specs.Prelude.{◌≡◌, ℕ, suc, ◌<◌, ◌≤◌, min, Bool, true, false, ◌&&◌, List, map, length, get_or, take, drop, ◌==◌, slice_index_or, slice_set, refl}
+use Rattle.std.specs.Prelude.{◌≡◌, ℕ, suc, ◌<◌, ◌≤◌, Bool, true, false, ◌&&◌, List, map, length, get_or, take, drop, ◌==◌, slice_index_or, slice_set, refl}
 use Rattle.std.proofs.Math.Path.{sym, ap}
 use Rattle.std.proofs.Common.{◌∙◌, arith, get_or-take}
 use Rattle.std.proofs.lemmas.Simd.{map-map}
 use Rattle.std.proofs.Math.ListN.{length-take}
 use Rattle.std.proofs.Math.Seq.{take-set-lt}
 use Rattle.base.specs.Choice.{pick}
-use Rattle.base.specs.Lists.{any, all, first_at, once, cut_at}
+use Rattle.base.specs.Lists.{any, all, once, cut_at}
 use Rattle.base.specs.Laws.Tests.{and_i, pick_map}
 use Rattle.base.specs.Laws.Keep.{all_append, all_take, all_drop, all_set, all_get_d}
 use Rattle.base.specs.Laws.Maps.{any_map, map_swap}
 use Rattle.base.specs.Laws.Over.{take_over}
 use Rattle.base.specs.Laws.Cut.{length_cut}
 use Rattle.base.specs.Laws.Index.{set_by_name}
-use Rattle.base.specs.Laws.Seeking.{there, nowhere}
 use Rattle.model.specs.Limits.{cabinet}
 use Rattle.model.specs.Interval as model
 use Rattle.model.proofs.Laws.SoundInterval.{view}
@@ -128,19 +127,6 @@ module _ (t : Requests) (s : Small t) where
 -- a live row, read in its array
 pub read_row : (t : Requests) (i : ℕ) → i < length (live t) → slice_index_or t.rows i out_row ≡ slice_index_or (live t) i out_row
 read_row t i h = sym (get_or-take t.count t.rows i out_row (omega (arith, length-take t.count t.rows)))
-
--- ---- where the first stands, as the code finds it
-
-module _ (p : Request → Bool) (t : Requests) (long : length t.rows ≡ 32) (i m : ℕ) (ei : i ≡ first_at p (live t)) (em : m ≡ min t.count 32) where
-  pub found : i < m → any p (live t) ≡ true
-  found h = there p t.rows t.count 32 m em long i ei h
-
-  pub missing : m ≤ i → any p (live t) ≡ false
-  missing h = nowhere p t.rows t.count 32 m em long i ei h
-
-pub and_no : (b : Bool) → (b && false) ≡ false
-and_no true = refl
-and_no false = refl
 
 pub and_yes : (b : Bool) → (b && true) ≡ b
 and_yes true = refl

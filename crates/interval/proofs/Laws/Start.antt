@@ -1,5 +1,6 @@
 -- Starting is what the model does: the due tick, reckoned on the circle, stands for the clock plus the interval. Assumes nothing.
-use Rattle.std.specs.Prelude.{◌≡◌, ℕ, zero, suc, ◌+◌, ◌^◌, ◌<◌, ◌≤◌, min, Bool, true, false, not, ◌||◌, List, [], ◌∷◌, ◌++◌, map, length, replicate, ◌==◌, ◌≢◌, nat_le, nat_lt, slice_set, refl}
+use Rattle.std.specs.Prelude.{◌≡◌, ℕ, zero, suc, ◌+◌, ◌^◌, ◌<◌, ◌≤◌, Bool, true, false, not, ◌||◌, List, [], ◌∷◌, ◌++◌, map, length, replicate, ◌==◌, nat_le, nat_lt, ltb, slice_set, refl, is_some, Result, Ok, Err, is_ok}
+use Rattle.std.specs.List.{position}
 use Rattle.std.proofs.Common.{sym, ◌∙◌, ltb-false, leb-false, le-leb, ne_eqb}
 use Rattle.std.proofs.Math.Path.{ap, ap₂}
 use Rattle.std.proofs.lemmas.List.{map-append}
@@ -8,8 +9,9 @@ use Rattle.std.proofs.Math.ListN.{length-append, length-take, length-map}
 use Rattle.base.specs.Choice.{pick}
 use Rattle.base.specs.Lists.{any, first_at, has, over}
 use Rattle.base.specs.Bytes.{blank, is_bytes}
-use Rattle.base.specs.Laws.Tests.{and_i}
+use Rattle.base.specs.Laws.Tests.{by_test, no, and_i, pick_map, pick_elim}
 use Rattle.base.specs.Laws.Keep.{all_append, first_at_any}
+use Rattle.base.specs.Laws.Library.{position_of}
 use Rattle.base.specs.Laws.Over.{take_over, over_put}
 use Rattle.model.specs.Limits.{cabinet}
 use Rattle.model.specs.Plans.{Outcome, first_of, obey, check, done, invalid_request, wrong_length, unknown_program, unknown_terminal, not_unique, no_space}
@@ -18,32 +20,23 @@ use Rattle.base.specs.Laws.Tests.{or_false_r}
 use Rattle.model.proofs.Laws.SoundStart.{start_sound}
 use Rattle.interval.specs.declared.Request.{Request}
 use Rattle.interval.specs.declared.Requests.{Requests}
-use Rattle.interval.specs.declared.answers.Start.{Start}
-use Rattle.interval.specs.declared.answers.Start.TheVariants as answers
-use Rattle.interval.specs.declared.answers.Started.{Started}
+use Rattle.interval.specs.declared.answers.StartError.{StartError}
+use Rattle.interval.specs.declared.answers.StartError.TheVariants as answers
+use Rattle.interval.specs.Answers.{Started}
 use Rattle.interval.specs.Circle.{after, to_go}
 use Rattle.interval.specs.Table.{programs_of, terminals_of, live, with_live}
 use Rattle.interval.specs.Stands.{phase_at, request_at, interval_at, Means, sound_r, Done}
 use Rattle.interval.specs.Rows.{named}
-use Rattle.interval.specs.Start.{start_gives, ruling, ruled, begun_at, new_row, if_done, started, start_in}
+use Rattle.interval.specs.Start.{start_gives, ruling, ruled, begun_at, new_row, started, start_in}
 use Rattle.interval.specs.Laws.Typed.{with_rows, counted}
 use Rattle.interval.specs.Laws.Ties.{short, Small, small, finish}
 use Rattle.interval.proofs.Laws.Standing.{known_at, live_at, live_small}
 
 -- ---- what a ruling comes to
 
-pub if_done_elim : {A : Type 0} (P : A → Type 0) (o : Start) (a b : A) → (o ≡ answers.Done → P a) → P b → P (if_done o a b)
-if_done_elim P answers.Done a b f g = f refl
-if_done_elim P answers.Invalid a b f g = g
-if_done_elim P answers.WrongLength a b f g = g
-if_done_elim P answers.UnknownProgram a b f g = g
-if_done_elim P answers.UnknownTerminal a b f g = g
-if_done_elim P answers.NotUnique a b f g = g
-if_done_elim P answers.NoSpace a b f g = g
-
-clear : (b : Bool) (x y : Start) → (x ≢ answers.Done) → pick b x y ≡ answers.Done → (b ≡ false) × (y ≡ answers.Done)
-clear true x y n e = absurd (n e)
-clear false x y n e = (refl, e)
+clear : (b : Bool) (e : StartError) (y : Result (Unit {0}) StartError) → is_ok (pick b (Err e) y) ≡ true → (b ≡ false) × (is_ok y ≡ true)
+clear true e y h = no h
+clear false e y h = (refl, h)
 
 -- what a start that is done has found out
 pub record Clear (i size count : ℕ) : Type 0 where
@@ -51,47 +44,29 @@ pub record Clear (i size count : ℕ) : Type 0 where
   pub fits : size ≤ 64
   pub room : count < 32
 
-pub cleared : (n i size : ℕ) (program terminal taken : Bool) (count : ℕ) → ruling n i size program terminal taken count ≡ answers.Done → Clear i size count
+pub cleared : (n i size : ℕ) (program terminal taken : Bool) (count : ℕ) → is_ok (ruling n i size program terminal taken count) ≡ true → Clear i size count
 unfolding ruling
 cleared n i size program terminal taken count e =
-    let a = clear (n == blank 8 || nat_lt 359_999_000 i) answers.Invalid _ (λ z. let y : ◌≡◌ {A = ℕ} 0 1 = cc in omega arith) e in
-    let b = clear (nat_lt 64 size) answers.WrongLength _ (λ z. let y : ◌≡◌ {A = ℕ} 0 1 = cc in omega arith) a.1 in
-    let c = clear (not program) answers.UnknownProgram _ (λ z. let y : ◌≡◌ {A = ℕ} 0 1 = cc in omega arith) b.1 in
-    let d = clear (not terminal) answers.UnknownTerminal _ (λ z. let y : ◌≡◌ {A = ℕ} 0 1 = cc in omega arith) c.1 in
-    let f = clear taken answers.NotUnique _ (λ z. let y : ◌≡◌ {A = ℕ} 0 1 = cc in omega arith) d.1 in
-    let g = clear (nat_le 32 count) answers.NoSpace answers.Done (λ z. let y : ◌≡◌ {A = ℕ} 0 1 = cc in omega arith) f.1 in
+    let a = clear (n == blank 8 || nat_lt 359_999_000 i) answers.Invalid _ e in
+    let b = clear (nat_lt 64 size) answers.WrongLength _ a.1 in
+    let c = clear (not program) answers.UnknownProgram _ b.1 in
+    let d = clear (not terminal) answers.UnknownTerminal _ c.1 in
+    let f = clear taken answers.NotUnique _ d.1 in
+    let g = clear (nat_le 32 count) answers.NoSpace (Ok tt) f.1 in
     record {
       soon = ltb-false 359_999_000 i (or_false_r (n == blank 8) (nat_lt 359_999_000 i) a.0);
       fits = ltb-false 64 size b.0;
       room = leb-false 32 count g.0;
     }
 
-if_done_map : {A B : Type 0} (f : A → B) (o : Start) (a b : A) → f (if_done o a b) ≡ if_done o (f a) (f b)
-if_done_map f answers.Done a b = refl
-if_done_map f answers.Invalid a b = refl
-if_done_map f answers.WrongLength a b = refl
-if_done_map f answers.UnknownProgram a b = refl
-if_done_map f answers.UnknownTerminal a b = refl
-if_done_map f answers.NotUnique a b = refl
-if_done_map f answers.NoSpace a b = refl
-
-if_done_cong : {A : Type 0} (o : Start) (a a' b : A) → (o ≡ answers.Done → a ≡ a') → if_done o a b ≡ if_done o a' b
-if_done_cong answers.Done a a' b e = e refl
-if_done_cong answers.Invalid a a' b e = refl
-if_done_cong answers.WrongLength a a' b e = refl
-if_done_cong answers.UnknownProgram a a' b e = refl
-if_done_cong answers.UnknownTerminal a a' b e = refl
-if_done_cong answers.NotUnique a a' b e = refl
-if_done_cong answers.NoSpace a a' b e = refl
-
 -- the six tests, and the six checks
-abbrev chain : Bool → Bool → Bool → Bool → Bool → Bool → Start
+abbrev chain : Bool → Bool → Bool → Bool → Bool → Bool → Result (Unit {0}) StartError
 chain b1 b2 b3 b4 b5 b6 =
-    pick b1 answers.Invalid (pick b2 answers.WrongLength (pick b3 answers.UnknownProgram (pick b4 answers.UnknownTerminal
-    (pick b5 answers.NotUnique (pick b6 answers.NoSpace answers.Done)))))
+    pick b1 (Err answers.Invalid) (pick b2 (Err answers.WrongLength) (pick b3 (Err answers.UnknownProgram) (pick b4 (Err answers.UnknownTerminal)
+    (pick b5 (Err answers.NotUnique) (pick b6 (Err answers.NoSpace) (Ok tt))))))
 
 chosen : (b1 b2 b3 b4 b5 b6 : Bool) (i new : model.Interval) → ◌≡◌ {A = Outcome model.Interval}
-    (record { condition = start_gives (chain b1 b2 b3 b4 b5 b6); number = 0; bytes = []; state = if_done (chain b1 b2 b3 b4 b5 b6) new i })
+    (record { condition = start_gives (chain b1 b2 b3 b4 b5 b6); number = 0; bytes = []; state = pick (is_ok (chain b1 b2 b3 b4 b5 b6)) new i })
     (obey i (first_of (check b1 invalid_request ∷ check b2 wrong_length ∷ check b3 unknown_program ∷ check b4 unknown_terminal ∷ check b5 not_unique ∷ check b6 no_space ∷ []))
     (done new 0))
 chosen true b2 b3 b4 b5 b6 i new = refl
@@ -129,7 +104,7 @@ module _ (t : Requests) (a : model.Asked) where
   abbrev pub StartBoth : Started → Type 0
   StartBoth r = (r ≡ start_in t a) × ((c : ℕ) → Means t c → sound_r t ≡ true → StartDone c r)
 
-  pub facts : ruled t a ≡ answers.Done → Clear a.interval (length a.bytes) (length (live t))
+  pub facts : is_ok (ruled t a) ≡ true → Clear a.interval (length a.bytes) (length (live t))
   facts = cleared a.name a.interval (length a.bytes) (has a.program (programs_of t)) (model.none_or_known a.terminal (terminals_of t)) (any (named a.name) (live t)) (length (live t))
 
   module _ (c : ℕ) (m : Means t c) where
@@ -152,28 +127,28 @@ module _ (t : Requests) (a : model.Asked) where
         (obey (interval_at c t) (first_of (model.start cabinet (interval_at c t) a).checks) (model.start cabinet (interval_at c t) a).effect)
     unfolding start_in model.start ruling interval_at
     start_outcome =
-        let o : Start = ruled t a in
+        let o : Result (Unit {0}) StartError = ruled t a in
         let new : model.Interval = model.with_requests (interval_at c t) ((interval_at c t).requests ++ (model.accepted c a ∷ [])) in
         rw (known_at c t a.name, count_at)
         (ap (λ (i : model.Interval). record { condition = start_gives o; number = 0; bytes = []; state = i })
-        (if_done_map (interval_at c) o more t ∙ if_done_cong o (interval_at c more) new (interval_at c t) (λ e. more_at (facts e).soon))
+        (pick_map (interval_at c) (is_ok o) more t ∙ by_test (is_ok o) (λ e. rw e (more_at (facts e).soon)) (λ e. rw e))
         ∙ chosen (a.name == blank 8 || nat_lt 359_999_000 a.interval) (nat_lt 64 (length a.bytes)) (not (has a.program (programs_of t)))
         (not (model.none_or_known a.terminal (terminals_of t))) (any (named a.name) (live t)) (nat_le 32 (length (live t))) (interval_at c t) new)
 
   start_small : sound_r t ≡ true → Small (start_in t a).requests
   unfolding start_in
   start_small s =
-      if_done_elim Small (ruled t a) more t
+      pick_elim Small (is_ok (ruled t a)) more t
       (λ e.
       let f = facts e in
       live_small t (small t s) (live t ++ (new_row t.register a ∷ [])) (simp length-append (omega (arith, f.room)))
       (rw (all_append short (live t) (new_row t.register a ∷ []))
       (and_i (small t s).shorts (and_i (le-leb (length a.bytes) 64 f.fits) refl))))
-      (small t s)
+      (λ _. small t s)
 
   start_means : (c : ℕ) → Means t c → Means (start_in t a).requests c
   unfolding start_in
-  start_means c m = if_done_elim (λ (u : Requests). Means u c) (ruled t a) more t (λ _. m) m
+  start_means c m = pick_elim (λ (u : Requests). Means u c) (is_ok (ruled t a)) more t (λ _. m) (λ _. m)
 
   -- ---- both clauses
   module _ (name : a.name < 256 ^ 8) (bytes : is_bytes a.bytes ≡ true) where
@@ -185,41 +160,36 @@ module _ (t : Requests) (a : model.Asked) where
           (start_outcome c m) (λ h f. start_sound cabinet (interval_at c t) h a name bytes f) (start_means c m) (start_small s)),
     )
 
-    module _ (o : Start) (eo : o ≡ ruled t a) where
+    module _ (o : Result (Unit {0}) StartError) (eo : o ≡ ruled t a) where
       -- another than done
-      pub start_same : (x : Start) → o ≡ x → if_done x more t ≡ t → StartBoth (record { requests = t; outcome = o })
+      pub start_same : is_ok o ≡ false → StartBoth (record { requests = t; outcome = o })
       unfolding start_in
-      start_same x e f =
+      start_same e =
+          let same : t ≡ pick (is_ok o) more t = rw e in
           start_both (record { requests = t; outcome = o })
-          (ap (λ (u : Requests). record { requests = u; outcome = o }) (sym (ap (λ (y : Start). if_done y more t) e ∙ f))
-          ∙ ap (λ (y : Start). started y t more) eo)
+          (ap (λ (u : Requests). record { requests = u; outcome = o }) same
+          ∙ ap (λ (y : Result (Unit {0}) StartError). started y t more) eo)
 
-      pub start_facts : o ≡ answers.Done → Clear a.interval (length a.bytes) (length (live t))
-      start_facts e = facts (sym eo ∙ e)
+      pub start_facts : is_ok o ≡ true → Clear a.interval (length a.bytes) (length (live t))
+      start_facts e = facts (ap is_ok (sym eo) ∙ e)
 
       -- the row is put behind the others
-      pub start_put : o ≡ answers.Done → length t.rows ≡ 32 → (n : ℕ) → n ≡ length (live t) → (q : Request) → q ≡ new_row t.register a
+      pub start_put : is_ok o ≡ true → length t.rows ≡ 32 → (n : ℕ) → n ≡ length (live t) → (q : Request) → q ≡ new_row t.register a
           → StartBoth (record { requests = counted (n + 1) (with_rows t (slice_set t.rows n q)); outcome = o })
       unfolding start_in
       start_put e long n en q eq =
-          let f = facts (sym eo ∙ e) in
+          let f = start_facts e in
           let z = length-take t.count t.rows in
           let k : n ≡ t.count = omega (arith, f.room) in
           let c : n + 1 ≡ length (live t ++ (new_row t.register a ∷ [])) = simp length-append (omega arith) in
           let l : slice_set t.rows n q ≡ over (live t ++ (new_row t.register a ∷ [])) t.rows =
           ap₂ (λ (i : ℕ) (x : Request). slice_set t.rows i x) k eq ∙ over_put t.count t.rows (new_row t.register a) (omega (arith, f.room)) in
+          let done : more ≡ pick (is_ok o) more t = rw e in
           start_both _
           (ap₂ (λ (i : ℕ) (r : List Request). record { requests = counted i (with_rows t r); outcome = o }) c l
-          ∙ ap (λ (u : Requests). record { requests = u; outcome = o }) (sym (ap (λ (y : Start). if_done y more t) e))
-          ∙ ap (λ (y : Start). started y t more) eo)
+          ∙ ap (λ (u : Requests). record { requests = u; outcome = o }) done
+          ∙ ap (λ (y : Result (Unit {0}) StartError). started y t more) eo)
 
--- what the code has found out is what the ruling asks for
-pub start_told : (t : Requests) (a : model.Asked) → length t.rows ≡ 32 → (p e : Bool) (i m : ℕ) → p ≡ has a.program (programs_of t)
-    → e ≡ model.none_or_known a.terminal (terminals_of t) → i ≡ first_at (named a.name) (live t) → m ≡ min t.count 32
-    → ruling a.name a.interval (length a.bytes) p e (nat_lt i m) m ≡ ruled t a
-start_told t a long p e i m ep ee ei em =
-    let k : m ≡ length (live t) = omega (arith, length-take t.count t.rows) in
-    rw (ep, ee, ei, k, first_at_any (named a.name) (live t))
-
-pub start_count : (t : Requests) → length t.rows ≡ 32 → (m : ℕ) → m ≡ min t.count 32 → m ≡ length (live t)
-start_count t long m em = omega (arith, length-take t.count t.rows)
+-- whether the name is in use, as the library's `position` says it
+pub taken_is : (t : Requests) (n : ℕ) → is_some (position (named n) (live t)) ≡ any (named n) (live t)
+taken_is t n = ap is_some (position_of (named n) (live t)) ∙ sym (first_at_any (named n) (live t) ∙ by_test (ltb (first_at (named n) (live t)) (length (live t))) (λ e. rw e) (λ e. rw e))

@@ -1,38 +1,41 @@
 -- Defining a program or a terminal is what the model does: of any list of names, and then of the two. Assumes nothing.
-use Rattle.std.specs.Prelude.{◌≡◌, ℕ, ◌+◌, ◌^◌, ◌<◌, ◌≤◌, Bool, true, false, List, [], ◌∷◌, ◌++◌, length, take, ◌==◌, nat_le, slice_set, refl}
-use Rattle.std.proofs.Common.{sym, ap, ap₂, ◌∙◌, arith, length-append, length-take, leb-false}
+use Rattle.std.specs.Prelude.{◌≡◌, ℕ, ◌+◌, ◌^◌, ◌<◌, ◌≤◌, Bool, true, false, List, [], ◌∷◌, ◌++◌, length, take, ◌==◌, nat_le, refl, Result, Ok, Err, is_ok}
+use Rattle.std.proofs.Common.{sym, ap, ap₂, ◌∙◌, arith, length-append, leb-false}
 use Rattle.base.specs.Choice.{pick}
 use Rattle.base.specs.Lists.{has, over}
 use Rattle.base.specs.Bytes.{blank}
 use Rattle.base.specs.Laws.Tests.{by_test, no, pick_map, pick_elim}
-use Rattle.base.specs.Laws.Over.{take_over, over_put}
+use Rattle.base.specs.Laws.Over.{take_over}
 use Rattle.model.specs.Limits.{cabinet}
 use Rattle.model.specs.Plans.{Outcome, Plan, first_of, obey}
 use Rattle.model.specs.Interval as model
 use Rattle.model.proofs.Laws.SoundInterval.{program_sound, terminal_sound}
 use Rattle.interval.specs.declared.Requests.{Requests}
-use Rattle.interval.specs.declared.answers.Define.{Define}
-use Rattle.interval.specs.declared.answers.Define.TheVariants as answers
-use Rattle.interval.specs.declared.answers.Defined.{Defined}
+use Rattle.interval.specs.declared.answers.DefineError.{DefineError}
+use Rattle.interval.specs.declared.answers.DefineError.TheVariants as answers
+use Rattle.interval.specs.Answers.{Defined}
 use Rattle.interval.specs.Stands.{interval_at, Means, sound_r, Done}
-use Rattle.interval.specs.Define.{define_gives, is_done, ruling, put_programs, put_terminals, define, define_program, define_terminal}
+use Rattle.interval.specs.Define.{define_gives, ruling, behind, put_programs, put_terminals, define, define_program, define_terminal}
 use Rattle.interval.specs.Laws.Ties.{Small, small, finish}
 
 -- ---- what a ruling comes to
 
-last_fails : (a b c : Bool) → is_done (pick a answers.Invalid (pick b answers.NotUnique (pick c answers.NoSpace answers.Done))) ≡ true → c ≡ false
+abbrev tests : Bool → Bool → Bool → Result (Unit {0}) DefineError
+tests a b c = pick a (Err answers.Invalid) (pick b (Err answers.NotUnique) (pick c (Err answers.NoSpace) (Ok tt)))
+
+last_fails : (a b c : Bool) → is_ok (tests a b c) ≡ true → c ≡ false
 last_fails true b c e = no e
 last_fails false true c e = no e
 last_fails false false true e = no e
 last_fails false false false e = refl
 
-pub room : (most : ℕ) (l : List ℕ) (n : ℕ) → is_done (ruling most l n) ≡ true → length l < most
+pub room : (most : ℕ) (l : List ℕ) (n : ℕ) → is_ok (ruling most l n) ≡ true → length l < most
 unfolding ruling
 room most l n e = leb-false most (length l) (last_fails (n == blank 4) (has n l) (nat_le most (length l)) e)
 
 ruled : (most : ℕ) (l : List ℕ) (n : ℕ) (put : List ℕ → model.Interval) (i : model.Interval)
     → ◌≡◌ {A = Outcome model.Interval}
-    (record { condition = define_gives (ruling most l n); number = 0; bytes = []; state = pick (is_done (ruling most l n)) (put (l ++ (n ∷ []))) i })
+    (record { condition = define_gives (ruling most l n); number = 0; bytes = []; state = pick (is_ok (ruling most l n)) (put (l ++ (n ∷ []))) i })
     (obey i (first_of (model.define most l n put).checks) (model.define most l n put).effect)
 unfolding ruling
 ruled most l n put i =
@@ -57,13 +60,10 @@ module _ {t : Requests} {n most count : ℕ} {places : List ℕ} {put : ℕ → 
   abbrev known : List ℕ
   known = take count places
 
-  abbrev behind : List ℕ
-  behind = known ++ (n ∷ [])
-
   abbrev more : Requests
-  more = put (length behind) (over behind places)
+  more = put (length (behind count places n)) (over (behind count places n) places)
 
-  longer : length behind ≡ length known + 1
+  longer : length (behind count places n) ≡ length known + 1
   longer = length-append known (n ∷ [])
 
   abbrev pub Both : Defined → Type 0
@@ -71,43 +71,40 @@ module _ {t : Requests} {n most count : ℕ} {places : List ℕ} {put : ℕ → 
 
   pub define_done : (c : ℕ) → Means t c → sound_r t ≡ true → Done c c t answer.requests (plan c) (define_gives answer.outcome) 0 []
   define_done c m s =
-      let o : Define = ruling most known n in
+      let o : Result (Unit {0}) DefineError = ruling most known n in
       rw a.answered
-      (finish c c t (pick (is_done o) more t) (plan c) (define_gives o) 0 [] m s
+      (finish c c t (pick (is_ok o) more t) (plan c) (define_gives o) 0 [] m s
       (ap (λ (i : model.Interval). record { condition = define_gives o; number = 0; bytes = []; state = i })
-      (pick_map (interval_at c) (is_done o) more t
-      ∙ ap (λ (i : model.Interval). pick (is_done o) i (interval_at c t)) (a.meant c _ _ ∙ ap (a.put_in c) (take_over behind places)))
+      (pick_map (interval_at c) (is_ok o) more t
+      ∙ ap (λ (i : model.Interval). pick (is_ok o) i (interval_at c t)) (a.meant c _ _ ∙ ap (a.put_in c) (take_over (behind count places n) places)))
       ∙ ruled most known n (a.put_in c) (interval_at c t)
       ∙ ap (λ (x : Plan model.Interval). obey (interval_at c t) (first_of x.checks) x.effect) (sym (a.planned c)))
       (a.sound c)
-      (pick_elim (λ (u : Requests). Means u c) (is_done o) more t (λ _. a.means c _ _ m) (λ _. m))
-      (pick_elim Small (is_done o) more t (λ e. a.few _ _ (omega (arith, longer, room most known n e)) (small t s)) (λ _. small t s)))
+      (pick_elim (λ (u : Requests). Means u c) (is_ok o) more t (λ _. a.means c _ _ m) (λ _. m))
+      (pick_elim Small (is_ok o) more t (λ e. a.few _ _ (omega (arith, longer, room most known n e)) (small t s)) (λ _. small t s)))
 
   both : (r : Defined) → r ≡ answer → Both r
   both r e = (e, λ c m s. rw e (define_done c m s))
 
-  -- as the code finds it: o is the ruling, and d tells whether it is done
-  module _ (long : length places ≡ most) (o : Define) (eo : o ≡ ruling (length places) known n) (d : Bool) (ed : d ≡ is_done o) where
-    told : o ≡ ruling most known n
-    told = eo ∙ ap (λ (k : ℕ). ruling k known n) long
-
-    as_told : (u : Requests) → u ≡ pick d more t → Both (record { requests = u; outcome = o })
-    as_told u e =
-        both _
-        (ap (λ (x : Requests). record { requests = x; outcome = o }) (e ∙ ap (λ (b : Bool). pick b more t) ed)
-        ∙ ap (λ (x : Define). record { requests = pick (is_done x) more t; outcome = x }) told ∙ sym a.answered)
-
-    pub define_room : d ≡ true → count < most
-    define_room e = omega (arith, room most known n (ap is_done (sym told) ∙ sym ed ∙ e), length-take count places)
-
-    pub define_put : d ≡ true → Both (record { requests = put (count + 1) (slice_set places count n); outcome = o })
-    define_put e =
-        let k : count < length places = omega (arith, define_room e, long) in
-        let z : count + 1 ≡ length behind = omega (arith, longer, length-take count places) in
-        as_told _ (ap₂ put z (over_put count places n k) ∙ sym (ap (λ (b : Bool). pick b more t) e))
-
-    pub define_same : d ≡ false → Both (record { requests = t; outcome = o })
-    define_same e = as_told t (rw e)
+  -- as the code finds it: o is the ruling, and k and l are what it leaves
+  pub defined : length places ≡ most → put count places ≡ t → (o : Result (Unit {0}) DefineError) → o ≡ ruling (length places) known n
+      → (k : ℕ) → k ≡ pick (is_ok o) (length (behind count places n)) count → (l : List ℕ) → l ≡ pick (is_ok o) (over (behind count places n) places) places
+      → Both (record { requests = put k l; outcome = o })
+  defined long same o eo k ek l el =
+      let ruled_so : o ≡ ruling most known n = eo ∙ ap (λ (m : ℕ). ruling m known n) long in
+      let is : put k l ≡ pick (is_ok o) more t =
+      by_test (is_ok o)
+      (λ e.
+      let ek' : k ≡ length (behind count places n) = rw e at ek in
+      let el' : l ≡ over (behind count places n) places = rw e at el in
+      rw e (ap₂ put ek' el'))
+      (λ e.
+      let ek' : k ≡ count = rw e at ek in
+      let el' : l ≡ places = rw e at el in
+      rw e (ap₂ put ek' el' ∙ same)) in
+      both _
+      (ap (λ (x : Requests). record { requests = x; outcome = o }) is
+      ∙ ap (λ (x : Result (Unit {0}) DefineError). record { requests = pick (is_ok x) more t; outcome = x }) ruled_so ∙ sym a.answered)
 
 -- ---- the two
 

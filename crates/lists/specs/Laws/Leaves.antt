@@ -1,20 +1,22 @@
 -- What every run leaves, whatever the monitor answers: one reply, one of three codes, nothing at all where the list is refused,
 -- and else the answers at the front of the buffer and each byte behind them as it was. Assumes nothing.
-use Rattle.std.specs.Prelude.{◌≡◌, ◌⊎◌, List, [], ◌∷◌, ℕ, suc, ◌*◌, ◌≤◌, ◌<◌, leb, take, drop, get_or}
+use Rattle.std.specs.Prelude.{◌≡◌, ◌⊎◌, List, [], ◌∷◌, ℕ, suc, ◌*◌, ◌≤◌, ◌<◌, eqb, leb, take, drop, get_or, Result, Ok, Err}
 use Rattle.std.proofs.Math.Path.{refl}
 use Rattle.std.proofs.Common.{ap, sym, ◌∙◌, inl, inr, arith, length-append, le-leb}
 use Rattle.std.proofs.Math.ListN.{length}
 use Rattle.std.proofs.lemmas.Bool.{lt-leb}
+use Rattle.base.specs.Choice.{pick}
 use Rattle.base.specs.Lists.{over}
 use Rattle.base.specs.Laws.Over.{take_over, drop_over, over_read}
 use Rattle.base.specs.Laws.Tests.{by_test}
 use Rattle.base.specs.Laws.Unique as unique
 use Rattle.model.specs.Lists as model
+use Rattle.frames.specs.declared.refused.Refused.{Refused}
+use Rattle.frames.specs.declared.refused.Refused.TheVariants.{NotFramed, NoRoom}
 use Rattle.monitor.specs.Step.{step_on}
 use Rattle.monitor.specs.Table.{fresh_tables}
 use Rattle.monitor.specs.declared.Tables.{Tables}
 use Rattle.lists.specs.Run.{answers_on, run_on, ran}
-use Rattle.lists.specs.declared.run.Ran.{Ran}
 
 -- ---- as many answers as records
 
@@ -83,10 +85,20 @@ module _ {b : List ℕ} {x : model.Ran} (S : Leaves b x) where
 
 -- ---- what is promised is one reply
 
-pub one_reply : (x : model.Ran) (r s : Ran) (o p : List ℕ) → ran r o ≡ x → ran s p ≡ x → (r ≡ s) × (o ≡ p)
+-- what the code returned, read off it
+abbrev read : model.Ran → Result ℕ Refused
+read y = pick (eqb y.code 35) (Err NotFramed) (pick (eqb y.code 36) (Err NoRoom) (Ok y.written))
+
+read_ran : (r : Result ℕ Refused) (o : List ℕ) → read (ran r o) ≡ r
+read_ran (Ok n) o = refl
+read_ran (Err NotFramed) o = refl
+read_ran (Err NoRoom) o = refl
+
+left_ran : (r : Result ℕ Refused) (o : List ℕ) → (ran r o).buffer ≡ o
+left_ran (Ok n) o = refl
+left_ran (Err e) o = refl
+
+pub one_reply : (x : model.Ran) (r s : Result ℕ Refused) (o p : List ℕ) → ran r o ≡ x → ran s p ≡ x → (r ≡ s) × (o ≡ p)
 one_reply x r s o p e f =
     let q : ran r o ≡ ran s p = unique.one_reply e f in
-    (ap (λ (y : model.Ran). same y) q, ap (λ (y : model.Ran). y.buffer) q)
-  where
-    same : model.Ran → Ran
-    same y = record { code = y.code; written = y.written }
+    (sym (read_ran r o) ∙ ap read q ∙ read_ran s p, sym (left_ran r o) ∙ ap (λ (y : model.Ran). y.buffer) q ∙ left_ran s p)

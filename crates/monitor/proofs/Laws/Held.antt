@@ -1,5 +1,5 @@
 -- What a run holds of a record, part by part: the part of its lane is asked, then the handlers, and that is `step_on`. Assumes nothing.
-use Rattle.std.specs.Prelude.{◌≡◌, refl, Bool, true, false, List, [], ℕ}
+use Rattle.std.specs.Prelude.{◌≡◌, refl, Bool, true, false, List, [], ℕ, Ok, Err}
 use Rattle.std.proofs.Math.Path.{sym, ap, ap₂}
 use Rattle.std.proofs.Common.{◌∙◌}
 use Rattle.base.specs.Choice.{pick}
@@ -7,9 +7,9 @@ use Rattle.model.specs.Plans.{Outcome}
 use Rattle.model.specs.Commands.{command, issuer}
 use Rattle.interval.specs.Remove.{remove_in}
 use Rattle.interval.specs.Runs as interval
-use Rattle.interval.specs.declared.Requests.{Requests as Interval}
+use Rattle.interval.specs.declared.Requests.{Requests}
 use Rattle.queues.specs.Runs as queues
-use Rattle.queues.specs.declared.Queues.{Queues}
+use Rattle.queues.specs.declared.Queues.{Queues as Waiting}
 use Rattle.handlers.specs.Decide.{decide_in}
 use Rattle.handlers.specs.Forget.{forget_in}
 use Rattle.handlers.specs.declared.Setting.{Setting}
@@ -19,8 +19,9 @@ use Rattle.monitor.specs.declared.Parts.{Parts}
 use Rattle.monitor.specs.declared.Tables.{Tables}
 use Rattle.monitor.specs.declared.answers.Answer.{Answer}
 use Rattle.monitor.specs.declared.answers.Said.{Said}
-use Rattle.monitor.specs.declared.lanes.Lane.{Lane}
-use Rattle.monitor.specs.declared.lanes.Lane.TheVariants.{Malformed, Stranger, Wrong, Requests, Finish, Store, Settings}
+use Rattle.records.specs.declared.Part.TheVariants.{Interval, Finish, Queues, Settings}
+use Rattle.frames.specs.Action.{code_of, label_of}
+use Rattle.monitor.specs.declared.lanes.Refusal.TheVariants.{Malformed, Stranger, Wrong}
 use Rattle.monitor.specs.declared.lanes.Verdict.{Verdict}
 use Rattle.monitor.specs.declared.requests.Asked.{Asked}
 use Rattle.monitor.specs.declared.settings.Made.{Made}
@@ -31,33 +32,33 @@ use Rattle.monitor.specs.Requests.{asks, ask_of}
 use Rattle.monitor.specs.Settings.{sets, setting_turn}
 use Rattle.monitor.specs.Store as store
 use Rattle.monitor.specs.Table.{without_in, store_of}
-use Rattle.monitor.specs.Lanes.{lane_of, for_requests, for_store, for_settings, word_of, laned, decides_in, setting_for, verdict_of, judged, lane_step}
+use Rattle.monitor.specs.Lanes.{Lane, lane_of, for_requests, for_store, for_settings, word_of, laned, decides_in, setting_for, verdict_of, judged, lane_step}
 use Rattle.monitor.specs.Step.{Lent, lent, turned, allowed_in, step_on}
 use Rattle.monitor.specs.Laws.Lanes.{by_lanes}
 
 -- the parts, the bytes of the items and what is said, each by itself
 pub record Held : Type 0 where
-  pub requests : Interval
-  pub queues : Queues
+  pub requests : Requests
+  pub queues : Waiting
   pub tasks : Tasks
   pub items : List ℕ
   pub said : Said
 
-abbrev pub held : Interval → Queues → Tasks → List ℕ → Said → Held
+abbrev pub held : Requests → Waiting → Tasks → List ℕ → Said → Held
 held q s h b w = record { requests = q; queues = s; tasks = h; items = b; said = w }
 
 abbrev pub held_of : Outcome Tables → Held
 held_of o = held o.state.parts.requests o.state.parts.queues o.state.parts.tasks o.state.items (said o)
 
-abbrev pub parts : Interval → Queues → Tasks → Parts
+abbrev pub parts : Requests → Waiting → Tasks → Parts
 parts q s h = record { requests = q; queues = s; tasks = h }
 
 -- ---- the part of the lane: each part in turn is asked, or stays as it is
 
-abbrev pub asked_of : Interval → Said → Asked
+abbrev pub asked_of : Requests → Said → Asked
 asked_of q w = record { requests = q; said = w }
 
-abbrev pub stored_of : Queues → Said → List ℕ → store.Lent
+abbrev pub stored_of : Waiting → Said → List ℕ → store.Lent
 stored_of s w b = store.lent (record { queues = s; said = w }) b
 
 abbrev pub made_of : Tasks → Said → Made
@@ -80,7 +81,7 @@ abbrev pub held_in : Asked → store.Lent → Made → Held
 held_in a s m = held a.requests s.stored.queues m.tasks s.items m.said
 
 module _ (l : Lane) (t : Tables) (r : List ℕ) where
-  module _ {q : Interval} {w : Said} where
+  module _ {q : Requests} {w : Said} where
     pub asked_yes : (k : ℕ) (a : Asked) → for_requests l ≡ true → k ≡ command r → a ≡ asks (interval.turn t.parts.requests (ask_of k r))
         → q ≡ a.requests → w ≡ a.said → asked_of q w ≡ asked_by l t r
     asked_yes k a e ek ea eq ew = rw (eq, ew, ea, ek, e)
@@ -94,7 +95,7 @@ module _ (l : Lane) (t : Tables) (r : List ℕ) where
     pub asked_not : for_requests l ≡ false → q ≡ t.parts.requests → w ≡ saying (word_of l) 0 [] → asked_of q w ≡ asked_by l t r
     asked_not e eq ew = rw (eq, ew, e)
 
-  module _ (v : Said) {s : Queues} {b : List ℕ} {w : Said} where
+  module _ (v : Said) {s : Waiting} {b : List ℕ} {w : Said} where
     pub stored_yes : (k : ℕ) (a : Stored) (c : List ℕ) → for_store l ≡ true → k ≡ command r → store.lent a c ≡ store.stores (queues.turn (store_of t) (store.store_ask k r))
         → s ≡ a.queues → b ≡ c → w ≡ a.said → stored_of s w b ≡ stored_by l t r v
     stored_yes k a c e ek ea es eb ew = rw (es, eb, ew, ea, ek, e)
@@ -115,13 +116,13 @@ in_turn : (l : Lane) (t : Tables) (r : List ℕ) →
     let a = asked_by l t r in
     let s = stored_by l t r a.said in
     held_in a s (made_by l t r s.stored.said) ≡ held_of (laned l t r)
-in_turn Malformed t r = refl
-in_turn Stranger t r = refl
-in_turn Wrong t r = refl
-in_turn Requests t r = refl
-in_turn Finish t r = refl
-in_turn Store t r = refl
-in_turn Settings t r = refl
+in_turn (Err Malformed) t r = refl
+in_turn (Err Stranger) t r = refl
+in_turn (Err Wrong) t r = refl
+in_turn (Ok Interval) t r = refl
+in_turn (Ok Finish) t r = refl
+in_turn (Ok Queues) t r = refl
+in_turn (Ok Settings) t r = refl
 
 pub held_lane : (l : Lane) (t : Tables) (r : List ℕ) (a : Asked) (s : store.Lent) (m : Made)
     → a ≡ asked_by l t r → s ≡ stored_by l t r a.said → m ≡ made_by l t r s.stored.said → held_in a s m ≡ held_of (laned l t r)
@@ -138,9 +139,9 @@ held_setting l n x = pick (decides_in l x.said.condition n) (decide_in x.tasks n
 
 abbrev pub held_end : Held → ℕ → Verdict → Bool → Lent Turned
 held_end x n v true =
-    lent (record { parts = without_in (parts x.requests x.queues x.tasks) n; answer = answering x.said v.action v.label }) x.items
+    lent (record { parts = without_in (parts x.requests x.queues x.tasks) n; answer = answering x.said (code_of v.action) (label_of v.action) }) x.items
 held_end x n v false =
-    lent (record { parts = parts x.requests x.queues x.tasks; answer = answering x.said v.action v.label }) x.items
+    lent (record { parts = parts x.requests x.queues x.tasks; answer = answering x.said (code_of v.action) (label_of v.action) }) x.items
 
 module _ (l : Lane) (n : ℕ) (x : Held) (d : Bool) (e : d ≡ decides_in l x.said.condition n) {by : Setting} where
   pub decided : d ≡ true → by ≡ decide_in x.tasks n x.said.condition → by ≡ held_setting l n x
@@ -149,10 +150,10 @@ module _ (l : Lane) (n : ℕ) (x : Held) (d : Bool) (e : d ≡ decides_in l x.sa
   pub undecided : d ≡ false → by ≡ Ignore → by ≡ held_setting l n x
   undecided f g = g ∙ ap (λ (y : Bool). pick y (decide_in x.tasks n x.said.condition) Ignore) (sym f ∙ e)
 
-abbrev pub held_turned : Held → Interval → Tasks → Answer → Lent Turned
+abbrev pub held_turned : Held → Requests → Tasks → Answer → Lent Turned
 held_turned x q h a = lent (record { parts = parts q x.queues h; answer = a }) x.items
 
-module _ (x : Held) (n : ℕ) (v : Verdict) {q : Interval} {h : Tasks} {a : Answer} (ea : a ≡ answering x.said v.action v.label) where
+module _ (x : Held) (n : ℕ) (v : Verdict) {q : Requests} {h : Tasks} {a : Answer} (ea : a ≡ answering x.said (code_of v.action) (label_of v.action)) where
   pub ended : v.ends ≡ true → q ≡ remove_in x.requests n → h ≡ forget_in x.tasks n → held_turned x q h a ≡ held_end x n v v.ends
   ended f eq eh = rw (eq, eh, ea, f)
 
@@ -164,7 +165,7 @@ module _ (x : Held) (n : ℕ) (v : Verdict) {q : Interval} {h : Tasks} {a : Answ
 ends_same : (n : ℕ) (o : Outcome Tables) (v : Verdict) → held_end (held_of o) n v v.ends ≡ turned (judged n o v)
 ends_same n o v = by v.ends
   where
-    by : (e : Bool) → held_end (held_of o) n v e ≡ turned (judged n o (record { action = v.action; label = v.label; ends = e }))
+    by : (e : Bool) → held_end (held_of o) n v e ≡ turned (judged n o (record { action = v.action; ends = e }))
     by true = refl
     by false = refl
 

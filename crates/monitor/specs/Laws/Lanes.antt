@@ -1,19 +1,23 @@
 -- A record comes to the same by lanes as by `step_on`. Assumes nothing.
-use Rattle.std.specs.Prelude.{◌≡◌, Bool, true, false, ◌||◌, List, ℕ, eqb, leb}
-use Rattle.std.proofs.Math.Path.{refl}
+use Rattle.std.specs.Prelude.{◌≡◌, Bool, true, false, ◌||◌, List, ℕ, ◌-◌, Ok, Err, eqb, leb, length}
+use Rattle.std.proofs.Math.Path.{refl, ap}
+use Rattle.std.proofs.Common.{◌∙◌}
 use Rattle.base.specs.Choice.{pick}
 use Rattle.base.specs.Bytes.{blank}
-use Rattle.base.specs.Laws.Tests.{by_test}
+use Rattle.base.specs.Laws.Tests.{by_test, and_r, no}
+use Rattle.model.specs.Laws.Rows.{of_every, ◌▹◌}
 use Rattle.model.specs.Plans.{normal, Outcome, fault, done}
-use Rattle.model.specs.Commands.{command, issuer, wrong_kind, row_of, formed}
+use Rattle.model.specs.Commands.{command, issuer, fits, wrong_kind, row_of, formed}
 use Rattle.handlers.specs.Decide.{decide_in}
 use Rattle.handlers.specs.declared.Setting.{Setting}
 use Rattle.handlers.specs.declared.Setting.TheVariants.{Unset, Ignore, Label}
 use Rattle.monitor.specs.declared.Tables.{Tables}
-use Rattle.monitor.specs.declared.lanes.Lane.{Lane}
-use Rattle.monitor.specs.declared.lanes.Lane.TheVariants.{Malformed, Stranger, Wrong, Requests, Finish, Store, Settings}
+use Rattle.records.specs.Rows.{part_of}
+use Rattle.records.specs.declared.Part.{Part}
+use Rattle.records.specs.declared.Part.TheVariants.{Interval, Finish, Queues, Settings}
+use Rattle.monitor.specs.declared.lanes.Refusal.TheVariants.{Malformed, Stranger, Wrong}
 use Rattle.monitor.specs.Table.{without_task}
-use Rattle.monitor.specs.Lanes.{command_lane, lane_of, laned, heard_in, finishes_in, setting_for, verdict_of, judged, lane_step}
+use Rattle.monitor.specs.Lanes.{Lane, lane_of, laned, heard_in, finishes_in, setting_for, verdict_of, judged, lane_step}
 use Rattle.monitor.specs.Step.{decided_in, settle_in, refused_in, allowed_in, deed, obeyed_in, step_on}
 
 -- ---- the handlers
@@ -40,35 +44,54 @@ refused l c n t h f = by (eqb c normal) (eqb n (blank 8)) (decide_in t.parts.tas
     by false true x = rw f
     by false false x = rw (h, f)
 
+-- ---- the part of a command
+
+abbrev by_number : ℕ → Part
+by_number n = pick (leb n 8) Interval (pick (eqb n 9) Finish (pick (leb n 14) Queues Settings))
+
+-- of a command whose operands can fit, so that it is one of the 17
+same_part : (k n : ℕ) → fits (row_of n).size k ≡ true → by_number n ≡ part_of n
+same_part k =
+    of_every (λ n w. fits w.size k ≡ true → by_number n ≡ part_of n) (λ n h. no h)
+    ((λ h. refl) ▹ (λ h. refl) ▹ (λ h. refl) ▹ (λ h. refl) ▹ (λ h. refl) ▹ (λ h. refl) ▹ (λ h. refl) ▹ (λ h. refl) ▹ (λ h. refl)
+    ▹ (λ h. refl) ▹ (λ h. refl) ▹ (λ h. refl) ▹ (λ h. refl) ▹ (λ h. refl) ▹ (λ h. refl) ▹ (λ h. refl) ▹ (λ h. refl) ▹ tt)
+
+fitted : (r : List ℕ) → formed r ≡ true → fits (row_of (command r)).size (length r - 9) ≡ true
+unfolding formed
+fitted r e = and_r (leb 9 (length r)) _ e
+
 -- ---- one record
 
 module _ (t : Tables) (r : List ℕ) where
-  malformed : refused_in t 33 ≡ lane_step Malformed (issuer r) t r
+  malformed : refused_in t 33 ≡ lane_step (Err Malformed) (issuer r) t r
   unfolding lane_step
-  malformed = refused Malformed 33 (issuer r) t refl refl
+  malformed = refused (Err Malformed) 33 (issuer r) t refl refl
 
-  stranger : refused_in t 34 ≡ lane_step Stranger (issuer r) t r
+  stranger : refused_in t 34 ≡ lane_step (Err Stranger) (issuer r) t r
   unfolding lane_step
-  stranger = refused Stranger 34 (issuer r) t refl refl
+  stranger = refused (Err Stranger) 34 (issuer r) t refl refl
 
-  wrong : settle_in (issuer r) (fault t 10) ≡ lane_step Wrong (issuer r) t r
+  wrong : settle_in (issuer r) (fault t 10) ≡ lane_step (Err Wrong) (issuer r) t r
   unfolding lane_step
-  wrong = settled Wrong (issuer r) (fault t 10) refl refl
+  wrong = settled (Err Wrong) (issuer r) (fault t 10) refl refl
 
-  finished : settle_in (issuer r) (done (without_task t (issuer r)) 0) ≡ lane_step Finish (issuer r) t r
+  finished : settle_in (issuer r) (done (without_task t (issuer r)) 0) ≡ lane_step (Ok Finish) (issuer r) t r
   unfolding settle_in lane_step
   finished = refl
 
   -- by the number of the command
-  heard : settle_in (issuer r) (deed (command r) t r) ≡ lane_step (command_lane (command r)) (issuer r) t r
-  unfolding deed command_lane lane_step
-  heard =
-      by_test (leb (command r) 8) (λ e. rw e (settled Requests (issuer r) (laned Requests t r) refl refl))
+  numbered : settle_in (issuer r) (deed (command r) t r) ≡ lane_step (Ok (by_number (command r))) (issuer r) t r
+  unfolding deed lane_step
+  numbered =
+      by_test (leb (command r) 8) (λ e. rw e (settled (Ok Interval) (issuer r) (laned (Ok Interval) t r) refl refl))
       (λ e.
       by_test (eqb (command r) 9) (λ f. rw (e, f) finished)
       (λ f.
-      by_test (leb (command r) 14) (λ g. rw (e, f, g) (settled Store (issuer r) (laned Store t r) refl refl))
-      (λ g. rw (e, f, g) (settled Settings (issuer r) (laned Settings t r) refl refl))))
+      by_test (leb (command r) 14) (λ g. rw (e, f, g) (settled (Ok Queues) (issuer r) (laned (Ok Queues) t r) refl refl))
+      (λ g. rw (e, f, g) (settled (Ok Settings) (issuer r) (laned (Ok Settings) t r) refl refl))))
+
+  heard : formed r ≡ true → settle_in (issuer r) (deed (command r) t r) ≡ lane_step (Ok (part_of (command r))) (issuer r) t r
+  heard e = numbered ∙ ap (λ (p : Part). lane_step (Ok p) (issuer r) t r) (same_part (length r - 9) (command r) (fitted r e))
 
   pub by_lanes : step_on t r ≡ lane_step (lane_of (allowed_in t.parts r) (issuer r) r) (issuer r) t r
   unfolding step_on lane_of obeyed_in
@@ -78,6 +101,6 @@ module _ (t : Tables) (r : List ℕ) where
       by_test (allowed_in t.parts r)
       (λ f.
       by_test (wrong_kind (row_of (command r)).who (issuer r)) (λ g. rw (e, f, g) wrong)
-      (λ g. rw (e, f, g) heard))
+      (λ g. rw (e, f, g) (heard e)))
       (λ f. rw (e, f) stranger))
       (λ e. rw e malformed)

@@ -1,5 +1,5 @@
 -- The answers that stand in a buffer, one after the other. Assumes nothing.
-use Rattle.std.specs.Prelude.{ℕ, zero, suc, ◌+◌, ◌≤◌, ◌<◌, ◌≡◌, Bool, true, false, ◌&&◌, List, [], ◌∷◌, ◌++◌, take, drop}
+use Rattle.std.specs.Prelude.{Option, Some, None, ℕ, zero, suc, ◌+◌, ◌≤◌, ◌<◌, ◌≡◌, Bool, true, false, ◌&&◌, List, [], ◌∷◌, ◌++◌, take, drop}
 use Rattle.std.proofs.Common.{arith, ◌∙◌}
 use Rattle.std.proofs.Math.Path.{refl, ap}
 use Rattle.std.proofs.Math.ListN.{length}
@@ -21,41 +21,41 @@ and_false false = refl
 -- ---- how many bytes an answer has
 
 module _ (l : List ℕ) where
-  pub size_short : length l < 10 → 0 ≡ answer_size l
+  pub size_short : length l < 10 → None ≡ answer_size l
   unfolding answer_size
   size_short h = rw (lt-leb 10 (length l) h) refl
 
-  pub size_low : num 0 2 l < 8 → 0 ≡ answer_size l
+  pub size_low : num 0 2 l < 8 → None ≡ answer_size l
   unfolding answer_size
   size_low h = rw (lt-leb 8 (num 0 2 l) h, and_false (leb 10 (length l))) refl
 
-  pub size_past : length l < 2 + num 0 2 l → 0 ≡ answer_size l
+  pub size_past : length l < 2 + num 0 2 l → None ≡ answer_size l
   unfolding answer_size
   size_past h = rw (lt-leb (2 + num 0 2 l) (length l) h, and_false (leb 10 (length l) && leb 8 (num 0 2 l))) refl
 
-  pub size_whole : 10 ≤ length l → 8 ≤ num 0 2 l → 2 + num 0 2 l ≤ length l → 2 + num 0 2 l ≡ answer_size l
+  pub size_whole : 10 ≤ length l → 8 ≤ num 0 2 l → 2 + num 0 2 l ≤ length l → Some (2 + num 0 2 l) ≡ answer_size l
   unfolding answer_size
   size_whole a b c = rw (le-leb 10 (length l) a, le-leb 8 (num 0 2 l) b, le-leb (2 + num 0 2 l) (length l) c) refl
 
   -- an answer stands there: it has ten bytes at least, and they are there
-  pub size_told : (n : ℕ) → n ≡ answer_size l → (n ≡ 0 → ⊥)
-      → (is_answer l ≡ true) × (n ≡ 2 + num 0 2 l) × (10 ≤ n) × (n ≤ length l)
+  pub size_told : (n : ℕ) → Some n ≡ answer_size l → (is_answer l ≡ true) × (n ≡ 2 + num 0 2 l) × (10 ≤ n) × (n ≤ length l)
   unfolding answer_size
-  size_told n e some =
+  size_told n e =
       by_test (is_answer l)
       (λ t.
-      let size : n ≡ 2 + num 0 2 l = e ∙ ap (λ (b : Bool). pick b (2 + num 0 2 l) 0) t in
+      let same : Some n ≡ Some (2 + num 0 2 l) = e ∙ ap (λ (b : Bool). pick b (Some (2 + num 0 2 l)) None) t in
+      let size : n ≡ 2 + num 0 2 l = cc in
       let low : 8 ≤ num 0 2 l = leb-true 8 (num 0 2 l) (and_r (leb 10 (length l)) (leb 8 (num 0 2 l)) (and_l (leb 10 (length l) && leb 8 (num 0 2 l)) (leb (2 + num 0 2 l) (length l)) t)) in
       let past : 2 + num 0 2 l ≤ length l = leb-true (2 + num 0 2 l) (length l) (and_r (leb 10 (length l) && leb 8 (num 0 2 l)) (leb (2 + num 0 2 l) (length l)) t) in
       (t, size, (omega arith), (omega arith)))
-      (λ t. absurd (some (e ∙ ap (λ (b : Bool). pick b (2 + num 0 2 l) 0) t)))
+      (λ t. let none : Some n ≡ None = e ∙ ap (λ (b : Bool). pick b (Some (2 + num 0 2 l)) None) t in cc)
 
   -- none stands there
-  pub size_none : 0 ≡ answer_size l → is_answer l ≡ false
+  pub size_none : None ≡ answer_size l → is_answer l ≡ false
   unfolding answer_size
   size_none e =
       by_test (is_answer l)
-      (λ t. let size : 0 ≡ 2 + num 0 2 l = e ∙ ap (λ (b : Bool). pick b (2 + num 0 2 l) 0) t in absurd (omega arith))
+      (λ t. let some : ◌≡◌ {A = Option ℕ} None (Some (2 + num 0 2 l)) = e ∙ ap (λ (b : Bool). pick b (Some (2 + num 0 2 l)) None) t in cc)
       (λ t. t)
 
 -- ---- the answers

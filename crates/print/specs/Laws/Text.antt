@@ -3,7 +3,7 @@
 use Rattle.std.specs.Prelude.{ℕ, zero, suc, min, ◌+◌, ◌-◌, ◌^◌, ◌≤◌, ◌<◌, ◌≡◌, refl, List, [], ◌∷◌, ◌++◌, length, drop, set, get_or, ltb}
 use Rattle.std.specs.Counts.{IsPrefixLen}
 use Rattle.std.proofs.Math.Nat.{pow-le-pow_right}
-use Rattle.std.proofs.Common.{add-one, arith, sym, ap, ap₂, ◌∙◌, append-nil, append_assoc, length-append, drop_of_length-le, drop-cons, take_all, take_at, length-take-le, lt-ltb, le-ltb, ltb-true, ltb-false}
+use Rattle.std.proofs.Common.{add-one, arith, sym, ap, ap₂, ◌∙◌, append-nil, append_assoc, length-append, drop-cons, take_all, take_at, length-take-le, lt-ltb, le-ltb, ltb-true, ltb-false}
 use Rattle.base.specs.Lists.{over}
 use Rattle.base.specs.Laws.Tests.{by_test}
 use Rattle.base.specs.Laws.Over.{length_over, over_set}
@@ -36,9 +36,6 @@ module _ (l : List ℕ) (i : ℕ) where
 
   pub hex_next : (s t : Written) → i < length l → t ≡ puts s (hex_of (get_or l i 0 ∷ [])) → puts t (hex_of (drop (i + 1) l)) ≡ puts s (hex_of (drop i l))
   hex_next s t h e = rw (e, add-one i, drop-cons l i 0 h) refl
-
-  pub drop_end : length l ≤ i → drop i l ≡ []
-  drop_end h = drop_of_length-le l {i = i} h
 
 -- ---- digits
 

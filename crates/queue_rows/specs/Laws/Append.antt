@@ -12,8 +12,8 @@ use Rattle.base.specs.Laws.Tests.{pick_elim}
 use Rattle.slots.specs.Bits.{free_for}
 use Rattle.slots.proofs.Laws.Free.{free_at, free_full}
 use Rattle.slots.specs.declared.Used.{Used}
-use Rattle.slots.specs.declared.Slot.{Slot}
-use Rattle.slots.specs.declared.Slot.TheVariants.{At, Full}
+use Rattle.std.specs.Prelude.{Option}
+use Rattle.std.specs.Prelude.{Some, None}
 use Rattle.model.specs.Plans.{no_space, wrong_length, invalid_request, Plan, Outcome, fault, done, first_of, Follows}
 use Rattle.model.specs.Queues.{Queue, known_queue, at_queue, longer, append}
 use Rattle.queue_rows.specs.Table.{Queues, rows_in, slots_in, names_of, entries, Store, store}
@@ -35,14 +35,14 @@ abbrev pub no_row : Queues → ℕ → Bool
 no_row q n = not (has n (names_of q)) && leb (rows_in q) q.count
 
 -- the slot for an item, of those that the asker may fill
-abbrev pub slot_for : Queues → ℕ → Slot
+abbrev pub slot_for : Queues → ℕ → Option ℕ
 slot_for q may = free_for (min may (slots_in q)) q.used
 
 pub append_elim : (q : Queues) (b : List ℕ) (may n : ℕ) (item : List ℕ) (P : Outcome Store → Type 0)
     → (eqb n (blank 8) ≡ true → P (fault (store q b) invalid_request))
     → (eqb n (blank 8) ≡ false → wrong item ≡ true → P (fault (store q b) wrong_length))
     → (eqb n (blank 8) ≡ false → wrong item ≡ false → no_row q n ≡ true → P (fault (store q b) no_space))
-    → (eqb n (blank 8) ≡ false → wrong item ≡ false → no_row q n ≡ false → (x : Slot) → slot_for q may ≡ x
+    → (eqb n (blank 8) ≡ false → wrong item ≡ false → no_row q n ≡ false → (x : Option ℕ) → slot_for q may ≡ x
     → P (in_slot (with_queue q n) b n item x))
     → P (append_to q b may n item)
 unfolding append_to
@@ -90,7 +90,7 @@ module _ (s : Store) (f : Fits s.queues s.items) (h : SoundS s) (may n : ℕ) (i
     is : Ready q b n r'
     is = ready q b f r n e g
 
-    no_slot : slot_for q may ≡ Full → Meets (fault (store r' b) no_space)
+    no_slot : slot_for q may ≡ None → Meets (fault (store r' b) no_space)
     unfolding append
     no_slot z =
         let full : may ≤ entries q =
@@ -99,25 +99,25 @@ module _ (s : Store) (f : Fits s.queues s.items) (h : SoundS s) (may n : ℕ) (i
         (rw (items_of_lem q b f r, le-leb may (entries q) full) (ap (λ (x : List Queue). fault x no_space) is.stands))
         (held_sound r' is.held)
 
-    module _ (k : ℕ) (z : slot_for q may ≡ At k) where
+    module _ (k : ℕ) (z : slot_for q may ≡ Some k) where
       free : Open r' k
       free = free_open r' is.fits.words may k (ap₂ (λ (u : Used) (x : ℕ). free_for (min may x) u) is.used is.slots ∙ z)
 
-      into : Meets (in_slot r' b n item (At k))
+      into : Meets (in_slot r' b n item (Some k))
       unfolding append
       into =
           let short = item_short item w in
           let room : entries q < may = omega (arith, (free_at q.used f.words (min may (slots_in q)) k z).share) in
-          follows_effect queues_of SoundS s P (in_slot r' b n item (At k)) clear
+          follows_effect queues_of SoundS s P (in_slot r' b n item (Some k)) clear
           (rw (items_of_lem q b f r, lt-leb may (entries q) room)
           (ap₂ (λ (x : List Queue) (p : ℕ). done x (p + 1))
           (put_stands r' b is.fits is.held n k free item short ∙ ap (at_queue n (longer item)) is.stands)
           (ap (copies n) is.owned ∙ sym (number_of_lem q b f r n))))
           (held_sound (put r' n (length item) k) (put_holds r' is.fits n (length item) k free is.held is.there (item_some item w) short))
 
-    slot_case : (x : Slot) → slot_for q may ≡ x → Meets (in_slot r' b n item x)
-    slot_case Full z = no_slot z
-    slot_case (At k) z = into k z
+    slot_case : (x : Option ℕ) → slot_for q may ≡ x → Meets (in_slot r' b n item x)
+    slot_case None z = no_slot z
+    slot_case (Some k) z = into k z
 
   -- for an asker who may fill so many slots
   pub append_share_follows : Follows queues_of SoundS (append_to s.queues s.items may n item) (queues_of s)

@@ -8,7 +8,7 @@ use Rattle.slots.specs.Told.{Typed}
 use Rattle.slots.proofs.Laws.Slots.{used_bit, marked_bit, marked_typed}
 use Rattle.slots.proofs.Laws.Free.{free_at}
 use Rattle.slots.specs.declared.Used.{Used}
-use Rattle.slots.specs.declared.Slot.TheVariants.{At}
+use Rattle.std.specs.Prelude.{Some}
 use Rattle.queue_rows.specs.Table.{Queues, slots_in, entries}
 
 -- ---- of any words
@@ -46,7 +46,7 @@ pub record Open (q : Queues) (k : ℕ) : Type 0 where
   pub room : entries q < slots_in q
 
 -- as many are in use as stand below the lowest that is free
-pub free_open : (q : Queues) → Typed q.used → (may k : ℕ) → free_for (min may (slots_in q)) q.used ≡ At k → Open q k
+pub free_open : (q : Queues) → Typed q.used → (may k : ℕ) → free_for (min may (slots_in q)) q.used ≡ Some k → Open q k
 free_open q w may k e =
     let fr = free_at q.used w (min may (slots_in q)) k e in
     let share : entries q < slots_in q = omega (arith, fr.share) in

@@ -17,8 +17,8 @@ use Rattle.slots.specs.Told as told
 use Rattle.slots.proofs.Laws.Slots.{none_typed, cleared_typed, marked_typed}
 use Rattle.slots.proofs.Laws.Free.{free_at}
 use Rattle.slots.specs.declared.Used.{Used}
-use Rattle.slots.specs.declared.Slot.{Slot}
-use Rattle.slots.specs.declared.Slot.TheVariants.{At, Full}
+use Rattle.std.specs.Prelude.{Option}
+use Rattle.std.specs.Prelude.{Some, None}
 use Rattle.model.specs.Plans.{Outcome}
 use Rattle.queue_rows.specs.Table.{Queues, rows_in, slots_in, names_of, entries, owners, places, slots_of, Store, store}
 use Rattle.queue_rows.specs.Fresh.{fresh_of}
@@ -178,9 +178,9 @@ module _ (s : Store) (f : Fits s.queues s.items) (t : Typed s) where
         pick_elim (λ (x : Queues). Kept s (store x b)) (has n (names_of q)) q (grown q n) (λ _. k)
         (λ h. grown_kept s q b k n name (leb-false (rows_in q) q.count (rw h at g)))
 
-    slot_kept : (x : Queues) → Kept s (store x b) → wrong item ≡ false → (j : Slot) → slot_for q may ≡ j → Kept s (in_slot x b n item j).state
-    slot_kept x c w Full z = c
-    slot_kept x c w (At j) z =
+    slot_kept : (x : Queues) → Kept s (store x b) → wrong item ≡ false → (j : Option ℕ) → slot_for q may ≡ j → Kept s (in_slot x b n item j).state
+    slot_kept x c w None z = c
+    slot_kept x c w (Some j) z =
         put_kept s x (stored b (j * 64) item) (stored_kept s x b c (j * 64) item y) n (length item) j name (omega (arith, item_short item w))
         (omega (arith, (free_at q.used f.words _ j z).below))
 

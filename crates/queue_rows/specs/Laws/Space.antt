@@ -8,8 +8,8 @@ use Rattle.base.specs.Bytes.{blank}
 use Rattle.base.specs.Laws.Tests.{by_test, no, both, pick_elim}
 use Rattle.base.specs.Laws.Keep.{first_at_lt}
 use Rattle.slots.proofs.Laws.Free.{free_some, free_at, free_full}
-use Rattle.slots.specs.declared.Slot.{Slot}
-use Rattle.slots.specs.declared.Slot.TheVariants.{At, Full}
+use Rattle.std.specs.Prelude.{Option}
+use Rattle.std.specs.Prelude.{Some, None}
 use Rattle.model.specs.Plans.{normal, no_space, Outcome}
 use Rattle.queue_rows.specs.Table.{Queues, rows_in, slots_in, names_of, entries, owners, Store}
 use Rattle.queue_rows.specs.Sound.{SoundS}
@@ -44,26 +44,26 @@ module _ (s : Store) (f : Fits s.queues s.items) (h : SoundS s) (may n : ℕ) (i
       inl (not-true (has n (names_of q)) c.0, omega arith))
       (λ _ _ _ x z. slot_case x z)
     where
-      slot_case : (x : Slot) → slot_for q may ≡ x → (in_slot (with_queue q n) b n item x).condition ≡ no_space → NoRoom q may n
-      slot_case Full z e =
+      slot_case : (x : Option ℕ) → slot_for q may ≡ x → (in_slot (with_queue q n) b n item x).condition ≡ no_space → NoRoom q may n
+      slot_case None z e =
           let room = (holds q h).laid.room in
           by_test (leb may (entries q)) (λ m. inr (inl (leb-true may (entries q) m)))
           (λ m.
           let less : entries q < may = leb-false may (entries q) m in
           inr (inr (⊎_elim (λ x. omega arith) (λ x. omega (arith, f.slots_few)) (free_full q.used f.words (min may (slots_in q)) z))))
-      slot_case (At k) z e = absurd (omega arith)
+      slot_case (Some k) z e = absurd (omega arith)
 
   pub full_refused : NoRoom s.queues may n → (append_to s.queues s.items may n item).condition ≡ normal → ⊥
   full_refused r =
       append_elim q b may n item (λ (o : Outcome Store). o.condition ≡ normal → ⊥)
       (λ _ e. omega arith) (λ _ _ e. omega arith) (λ _ _ _ e. omega arith) (λ _ _ g x z. slot_case r g x z)
     where
-      slot_case : NoRoom q may n → no_row q n ≡ false → (x : Slot) → slot_for q may ≡ x
+      slot_case : NoRoom q may n → no_row q n ≡ false → (x : Option ℕ) → slot_for q may ≡ x
           → (in_slot (with_queue q n) b n item x).condition ≡ normal → ⊥
-      slot_case r g Full z e = omega arith
-      slot_case (inl (u, c)) g (At k) z e = no (sym (rw (u, le-leb (rows_in q) q.count (omega arith)) at g))
-      slot_case (inr (inl m)) g (At k) z e = omega (arith, (free_at q.used f.words (min may (slots_in q)) k z).share)
-      slot_case (inr (inr m)) g (At k) z e = omega (arith, (free_at q.used f.words (min may (slots_in q)) k z).share)
+      slot_case r g None z e = omega arith
+      slot_case (inl (u, c)) g (Some k) z e = no (sym (rw (u, le-leb (rows_in q) q.count (omega arith)) at g))
+      slot_case (inr (inl m)) g (Some k) z e = omega (arith, (free_at q.used f.words (min may (slots_in q)) k z).share)
+      slot_case (inr (inr m)) g (Some k) z e = omega (arith, (free_at q.used f.words (min may (slots_in q)) k z).share)
 
 -- ---- not full
 

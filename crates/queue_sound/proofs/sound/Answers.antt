@@ -1,15 +1,23 @@
 -- `queue_sound::sound` meets its contract. Assumes nothing.
-use mathlib.Core.Path.{ap₂}
-use Prim.Native.Nat.{ℕ}
-use lib.ListN.{length}
+use Rattle.std.proofs.Common.{length, refl, ◌∙◌}
+use Rattle.queue_sound.proofs.Both.{both_then, both_else}
 use Rattle.queue_sound.proofs.Whole.{answered}
 use Rattle.queue_sound.proofs.sound.Goals as goal
 
-pub returns : goal.returns
-returns c =
-    let a = c.args in record {
-      exact = answered c.layout-l.result a.queues.now (length a.items.now) c.layout-l.ensures.laid c.layout-l.ensures.sized _ c.count-n.result _
-          c.rows_sound-rows.result c.entries_sound-entries.result c.both.result c.word_at-count.ensures.exact
-          (ap₂ (λ (x y : ℕ). record { lo = x; hi = y }) c.word_at.ensures.exact c.word_at-2.ensures.exact) c.count-n.ensures.exact
-          c.rows_sound-rows.ensures c.entries_sound-entries.ensures c.both.ensures;
+pub returns-then-rows_sound : goal.returns-then-rows_sound
+returns-then-rows_sound c =
+    let a = c.args in
+    let l = c.layout-names in
+    record {
+      exact = both_then _ c.rows_sound.ensures c.if-rows_sound.true c.entries_sound.ensures
+          ∙ answered l.result a.queues.now (length a.items.now) l.ensures.laid l.ensures.sized _ _ _ c.word_at-count.ensures.exact c.used-u.ensures.exact c.count-n.ensures.exact;
+    }
+
+pub returns-else-rows_sound : goal.returns-else-rows_sound
+returns-else-rows_sound c =
+    let a = c.args in
+    let l = c.layout-names in
+    record {
+      exact = both_else _ _ c.rows_sound.ensures c.if-rows_sound.false refl
+          ∙ answered l.result a.queues.now (length a.items.now) l.ensures.laid l.ensures.sized _ _ _ c.word_at-count.ensures.exact c.used-u.ensures.exact c.count-n.ensures.exact;
     }

@@ -1,9 +1,9 @@
 -- Append: the exact definition comes to what the model's plan says, and leaves sound queues sound; and the rows that the search gives.
 -- Assumes nothing.
-use Rattle.std.specs.Prelude.{◌≡◌, refl, Bool, true, false, not, ◌&&◌, ◌||◌, List, [], ℕ, ◌+◌, ◌^◌, ◌≤◌, ◌<◌, eqb, leb, ltb, length}
+use Rattle.std.specs.Prelude.{◌≡◌, refl, Bool, true, false, not, ◌&&◌, ◌||◌, List, [], ℕ, ◌+◌, ◌^◌, ◌≤◌, ◌<◌, eqb, leb, ltb, length, Option, Some, None, Ok, Err}
 use Rattle.std.proofs.Common.{sym, ap, ap₂, ◌∙◌, subst, ⊎_elim, arith}
 use Rattle.std.proofs.Math.Nat.{min-eq_left}
-use borrow.Author.Tests.{leb-true, le-leb, lt-leb, ltb-false, not-false}
+use borrow.Author.Tests.{leb-true, leb-false, le-leb, lt-leb, le-ltb, lt-ltb, ltb-false, not-false}
 use Rattle.base.specs.Choice.{pick}
 use Rattle.base.specs.Lists.{has, copies}
 use Rattle.base.specs.Bytes.{blank}
@@ -11,15 +11,13 @@ use Rattle.slots.specs.Bits.{free_for}
 use Rattle.slots.specs.Told.{Free}
 use Rattle.slots.proofs.Laws.Free.{free_at, free_full}
 use Rattle.slots.specs.declared.Used.{Used}
-use Rattle.slots.specs.declared.Slot.{Slot}
-use Rattle.slots.specs.declared.Slot.TheVariants.{At, Full}
 use Rattle.model.specs.Limits.{cabinet, some}
 use Rattle.model.specs.Plans.{Outcome, first_of, obey, fault, done, no_space, wrong_length, invalid_request}
 use Rattle.model.specs.Queues.{Queue, known_queue, queue_of, items_in, made, at_queue, longer, append}
-use Rattle.base.specs.Laws.Tests.{or_false_l, or_false_r, pick_elim}
+use Rattle.base.specs.Laws.Tests.{by_test, or_false_l, or_false_r, pick_elim}
 use Rattle.queues.specs.declared.Queues.{Queues}
 use Rattle.queues.specs.declared.append.Appended.{Appended}
-use Rattle.queues.specs.declared.append.Appending.TheVariants.{Stored, NoSpace, WrongLength, Invalid}
+use Rattle.queues.specs.declared.append.AppendError.TheVariants.{NoSpace, WrongLength, Invalid}
 use Rattle.queues.specs.Table.{names_of, owners}
 use Rattle.queues.specs.Model.{queues_of}
 use Rattle.queues.specs.Sound.{sound_q, Did}
@@ -35,24 +33,35 @@ use Rattle.queues.specs.Laws.Put.{put_holds, put_stands}
 abbrev pub wrong : List ℕ → Bool
 wrong item = not (some item) || ltb 64 (length item)
 
+-- the length that an item has
+pub item_wrong : (item : List ℕ) (r : Bool) → (leb 1 (length item) && leb (length item) 64) ≡ r → wrong item ≡ not r
+item_wrong item r e =
+    let m = length item in
+    by_test (some item)
+    (λ f.
+    by_test (leb m 64)
+    (λ g. let h = rw (f, g) at e in rw (f, le-ltb 64 m (leb-true m 64 g)) (ap not h))
+    (λ g. let h = rw (f, g) at e in rw (f, lt-ltb 64 m (leb-false m 64 g)) (ap not h)))
+    (λ f. let h = rw f at e in rw f (ap not h))
+
 -- "the name is unknown and 16 queues exist"
 abbrev pub no_row : Queues → ℕ → Bool
 no_row q n = not (has n (names_of q)) && leb 16 q.count
 
 pub append_elim : (q : Queues) (b : List ℕ) (may n : ℕ) (item : List ℕ) (P : Lent → Type 0)
-    → (eqb n (blank 8) ≡ true → P (answer q b Invalid))
-    → (eqb n (blank 8) ≡ false → wrong item ≡ true → P (answer q b WrongLength))
-    → (eqb n (blank 8) ≡ false → wrong item ≡ false → no_row q n ≡ true → P (answer q b NoSpace))
-    → (eqb n (blank 8) ≡ false → wrong item ≡ false → no_row q n ≡ false → (x : Slot) → free_for may q.used ≡ x → P (in_slot (with_queue q n) b n item x))
+    → (eqb n (blank 8) ≡ true → P (answer q b (Err Invalid)))
+    → (eqb n (blank 8) ≡ false → wrong item ≡ true → P (answer q b (Err WrongLength)))
+    → (eqb n (blank 8) ≡ false → wrong item ≡ false → no_row q n ≡ true → P (answer q b (Err NoSpace)))
+    → (eqb n (blank 8) ≡ false → wrong item ≡ false → no_row q n ≡ false → (x : Option ℕ) → free_for may q.used ≡ x → P (in_slot (with_queue q n) b n item x))
     → P (append_to q b may n item)
 unfolding append_to
 append_elim q b may n item P a w f d =
     let last : Lent = in_slot (with_queue q n) b n item (free_for may q.used) in
-    let third : Lent = pick (no_row q n) (answer q b NoSpace) last in
-    pick_elim P (eqb n (blank 8)) (answer q b Invalid) (pick (wrong item) (answer q b WrongLength) third) a
+    let third : Lent = pick (no_row q n) (answer q b (Err NoSpace)) last in
+    pick_elim P (eqb n (blank 8)) (answer q b (Err Invalid)) (pick (wrong item) (answer q b (Err WrongLength)) third) a
     (λ e.
-    pick_elim P (wrong item) (answer q b WrongLength) third (w e)
-    (λ g. pick_elim P (no_row q n) (answer q b NoSpace) last (f e g) (λ h. d e g h (free_for may q.used) refl)))
+    pick_elim P (wrong item) (answer q b (Err WrongLength)) third (w e)
+    (λ g. pick_elim P (no_row q n) (answer q b (Err NoSpace)) last (f e g) (λ h. d e g h (free_for may q.used) refl)))
 
 -- ---- what the plan says, by its checks
 
@@ -109,7 +118,7 @@ module _ (q : Queues) (b : List ℕ) (may n : ℕ) (item : List ℕ) (t : Typed 
     is : Ready q n r
     is = ready q n t s w e g
 
-    no_slot : free_for may q.used ≡ Full → Meets (answer r b NoSpace)
+    no_slot : free_for may q.used ≡ None → Meets (answer r b (Err NoSpace))
     no_slot z = record {
       outcome =
           ap (λ (x : List Queue). fault x no_space) (is.stands b)
@@ -124,11 +133,11 @@ module _ (q : Queues) (b : List ℕ) (may n : ℕ) (item : List ℕ) (t : Typed 
     high : length item ≤ 64
     high = ltb-false 64 (length item) (or_false_r (not (some item)) (ltb 64 (length item)) f)
 
-    module _ (k : ℕ) (z : free_for may q.used ≡ At k) where
+    module _ (k : ℕ) (z : free_for may q.used ≡ Some k) where
       free : Free may r.used k
       free = subst (λ (u : Used). Free may u k) (sym is.same) (free_at q.used t.words may k z)
 
-      into : Meets (answer (put r n (length item) k) (stored b item k) (Stored (copies n (owners r) + 1)))
+      into : Meets (answer (put r n (length item) k) (stored b item k) (Ok (copies n (owners r) + 1)))
       into = record {
         outcome =
             ap₂ (λ (x : List Queue) (p : ℕ). done x (p + 1))
@@ -138,9 +147,9 @@ module _ (q : Queues) (b : List ℕ) (may n : ℕ) (item : List ℕ) (t : Typed 
         soundly = held_sound (put r n (length item) k) (put_holds r is.typed n (length item) k may free is.held is.there low high);
       }
 
-    slot_case : (x : Slot) → free_for may q.used ≡ x → Meets (in_slot r b n item x)
-    slot_case Full z = no_slot z
-    slot_case (At k) z = into k z
+    slot_case : (x : Option ℕ) → free_for may q.used ≡ x → Meets (in_slot r b n item x)
+    slot_case None z = no_slot z
+    slot_case (Some k) z = into k z
 
   pub append_meets : Meets (append_to q b may n item)
   append_meets =

@@ -1,6 +1,6 @@
 -- Delete queue in the words of the model: sound queues stand, after it, for the queues less the one that is deleted; the number is how many
 -- items it had, and as many entries are gone; its slots alone are free; and what is left is sound. Assumes nothing.
-use Rattle.std.specs.Prelude.{◌≡◌, false, not, ℕ, ◌-◌, ◌≤◌, ◌<◌, eqb, take, replicate}
+use Rattle.std.specs.Prelude.{◌≡◌, false, not, ℕ, ◌-◌, ◌≤◌, ◌<◌, eqb, take, replicate, Err}
 use Rattle.std.proofs.Math.Path.{refl, ap, ap₂, subst}
 use Rattle.std.proofs.Common.{sym, ◌∙◌, arith, eqb-true, eq-eqb}
 use Rattle.std.proofs.Math.Bool.{true}
@@ -21,11 +21,11 @@ use Rattle.model.specs.Queues.{Queue, queue_of, sound_queues, delete}
 use Rattle.model.proofs.Laws.SoundQueues.{delete_sound}
 use Rattle.queues.specs.declared.Queues.{Queues}
 use Rattle.queues.specs.declared.delete.Deleted.{Deleted}
-use Rattle.queues.specs.declared.delete.Deleting.TheVariants.{UnknownQueue, Invalid}
+use Rattle.queues.specs.declared.delete.DeleteError.TheVariants.{UnknownQueue, Invalid}
 use Rattle.queues.specs.Table.{rows_in, names_of, pointers_of, entries, owners, places, row_of, slots_in, slots_of, contents}
 use Rattle.queues.specs.Model.{queues_from, items_of, queues_of}
 use Rattle.queues.specs.Sound.{sound_q, length_in, Did}
-use Rattle.queues.specs.Delete.{condition_of, number_of, less, others_than, slots_but, shut, emptied, swept, delete_from, Frees}
+use Rattle.queues.specs.Delete.{condition_of, number_of, less, others_than, slots_but, shut_at, shut, emptied, swept, answer, delete_from, Frees}
 use Rattle.queues.specs.Laws.Typed.{Typed, owners_long, entries_long, names_count, pointers_count, rows_long}
 use Rattle.queues.specs.Laws.From.{slots_count, slots_none}
 use Rattle.queues.specs.Laws.Stands.{Laid, QueuesHold, holds, known_of_lem, number_of_lem, model_sound, stands_sound}
@@ -56,11 +56,11 @@ module _ (q : Queues) (n : ℕ) (ty : Typed q) (s : QueuesHold q) (k : has n (na
   front l m e = take_at (less (row_of q n) l) _ (rows_in q - 1) (omega (arith, row, less_length (row_of q n) l (omega (arith, row))))
 
   names_left : names_of left ≡ less (row_of q n) (names_of q)
-  unfolding emptied shut
+  unfolding emptied shut_at
   names_left = front (names_of q) q.names (names_count q ty)
 
   pointers_left : pointers_of left ≡ less (row_of q n) (pointers_of q)
-  unfolding emptied shut
+  unfolding emptied shut_at
   pointers_left = front (pointers_of q) q.pointers (pointers_count q ty)
 
   -- a slot that an entry names is in use, and no other entry names it
@@ -74,23 +74,23 @@ module _ (q : Queues) (n : ℕ) (ty : Typed q) (s : QueuesHold q) (k : has n (na
 
   -- the slots of the queue are free, and with each an entry is gone
   freed : Cleared q.used left.used (slots_of n os ss)
-  unfolding emptied shut
+  unfolding emptied shut_at
   freed = clear_all_lem (slots_of n os ss) q.used ty.words (λ t. omega (arith, listed t, copies_split n t os ss long))
 
   entries_left : length (others_than n os) ≡ entries left
   entries_left = omega (arith, freed.fewer, others_long n os, slots_count n os ss long, owners_long q ty)
 
   owners_left : owners left ≡ others_than n os
-  unfolding emptied shut
+  unfolding emptied shut_at
   owners_left = take_at (others_than n os) _ (entries left) entries_left
 
   places_left : places left ≡ slots_but n os ss
-  unfolding emptied shut
+  unfolding emptied shut_at
   places_left = take_at (slots_but n os ss) _ (entries left) (but_long n os ss long ∙ entries_left)
 
   -- another queue's items are as they were
   items_left : (b : List ℕ) (m : ℕ) → eqb m n ≡ false → items_of left b m ≡ items_of q b m
-  unfolding items_of emptied shut
+  unfolding items_of emptied shut_at
   items_left b m d =
       ap₂ (λ (x y : List ℕ). map (contents q b) (slots_of m x y)) owners_left places_left
       ∙ ap (map (contents q b)) (slots_others n m d os ss long)
@@ -109,7 +109,7 @@ module _ (q : Queues) (n : ℕ) (ty : Typed q) (s : QueuesHold q) (k : has n (na
       (omega (arith, freed.bits t, but_other n os ss long s.laid.alone t h, in_use_lem t (but_has n os ss long t h)))
 
   laid_left : Laid left
-  unfolding emptied shut
+  unfolding emptied shut_at
   laid_left = record {
     few = omega arith;
     owned = rw (owners_left, names_left, less_others n (names_of q) s.unique) (others_within n os (names_of q) s.laid.owned);
@@ -170,17 +170,17 @@ module _ (q : Queues) (n : ℕ) (ty : Typed q) (h : sound_q q ≡ true) (b : Lis
   abbrev Meets : Deleted → Type 0
   Meets r = Did q b r.queues b (delete (queues_of q b) n) (condition_of r.outcome) (number_of r.outcome) []
 
-  blank_case : eqb n (blank 8) ≡ true → Meets (record { queues = q; outcome = Invalid })
+  blank_case : eqb n (blank 8) ≡ true → Meets (answer q (Err Invalid))
   unfolding delete
   blank_case e = record { outcome = rw e; soundly = h }
 
-  unknown_case : eqb n (blank 8) ≡ false → has n (names_of q) ≡ false → Meets (record { queues = q; outcome = UnknownQueue })
+  unknown_case : eqb n (blank 8) ≡ false → has n (names_of q) ≡ false → Meets (answer q (Err UnknownQueue))
   unfolding delete
   unknown_case e k = record { outcome = rw (e, known_of_lem q b ty n, k); soundly = h }
 
   -- "items freed"
   freed_number : length (queue_of (queues_of q b) n).items ≡ copies n (owners (shut q n))
-  unfolding shut
+  unfolding shut_at
   freed_number = number_of_lem q b ty (holds q h) n
 
   known_case : eqb n (blank 8) ≡ false → has n (names_of q) ≡ true → Typed (swept (shut q n) n).queues → Meets (swept (shut q n) n)
@@ -196,16 +196,10 @@ module _ (q : Queues) (n : ℕ) (ty : Typed q) (h : sound_q q ≡ true) (b : Lis
   unfolding delete_from
   delete_meets r ty' f =
       by_test (eqb n (blank 8))
-      (λ e. let g : r ≡ record { queues = q; outcome = Invalid } = f ∙ rw e in subst Meets (sym g) (blank_case e))
+      (λ e. let g : r ≡ answer q (Err Invalid) = f ∙ rw e in subst Meets (sym g) (blank_case e))
       (λ e.
       by_test (has n (names_of q))
       (λ k.
       let g : r ≡ swept (shut q n) n = f ∙ rw (e, k) in
       subst Meets (sym g) (known_case e k (subst (λ (x : Deleted). Typed x.queues) g ty')))
-      (λ k. let g : r ≡ record { queues = q; outcome = UnknownQueue } = f ∙ rw (e, k) in subst Meets (sym g) (unknown_case e k)))
-
--- both clauses
-pub delete_both : (q : Queues) (n : ℕ) → Typed q → (r : Deleted) → Typed r.queues → r ≡ delete_from q n
-    → (r ≡ delete_from q n)
-    × (sound_q q ≡ true → (b : List ℕ) → Did q b r.queues b (delete (queues_of q b) n) (condition_of r.outcome) (number_of r.outcome) [])
-delete_both q n ty r ty' f = (f, λ h b. delete_meets q n ty h b r ty' f)
+      (λ k. let g : r ≡ answer q (Err UnknownQueue) = f ∙ rw (e, k) in subst Meets (sym g) (unknown_case e k)))

@@ -1,7 +1,7 @@
 -- Each exact definition keeps what the types say: the lengths of the arrays, the widths of the numbers, and that 8,192 bytes are lent.
 -- Assumes nothing.
-use Rattle.std.specs.Prelude.{◌≡◌, Bool, true, false, List, [], ◌∷◌, ℕ, suc, ◌+◌, ◌^◌, ◌<◌, ◌≤◌, eqb, length, take, drop, get_or}
-use Rattle.std.proofs.Common.{◌∙◌, arith, length-append, length-drop, ltb-true, ltb-false, lt-ltb, leb-false}
+use Rattle.std.specs.Prelude.{◌≡◌, Bool, true, false, List, [], ◌∷◌, ℕ, suc, ◌+◌, ◌^◌, ◌<◌, ◌≤◌, eqb, length, take, drop, get_or, Option, Some, None, Err}
+use Rattle.std.proofs.Common.{◌∙◌, arith, length-append, length-drop, ltb-true, ltb-false, lt-ltb}
 use Rattle.std.proofs.Math.Bool.{not}
 use Rattle.std.proofs.Math.Dec.{ltb}
 use Rattle.std.proofs.Math.ListN.{length-take, length-set}
@@ -16,23 +16,21 @@ use Rattle.slots.specs.Told as told
 use Rattle.slots.proofs.Laws.Slots.{cleared_typed, marked_typed}
 use Rattle.slots.proofs.Laws.Free.{free_at}
 use Rattle.slots.specs.declared.Used.{Used}
-use Rattle.slots.specs.declared.Slot.{Slot}
-use Rattle.slots.specs.declared.Slot.TheVariants.{At, Full}
 use Rattle.model.specs.Limits.{some}
 use Rattle.queues.specs.declared.Queues.{Queues}
-use Rattle.queues.specs.declared.delete.Deleting.TheVariants as deleting
+use Rattle.queues.specs.declared.delete.DeleteError.TheVariants.{UnknownQueue, Invalid}
 use Rattle.queues.specs.declared.delete.Deleted.{Deleted}
 use Rattle.queues.specs.declared.read.Read.{Read}
 use Rattle.queues.specs.Table.{row_of, names_of, pointers_of, entries, owners, places, slots_in}
 use Rattle.queues.specs.Append as append
 use Rattle.queues.specs.Append.{with_queue, put, stored, in_slot, append_to}
-use Rattle.queues.specs.Place.{slot_in}
 use Rattle.queues.specs.Read.{point_to, pointer_of, read_in, read_next_in}
 use Rattle.queues.specs.Rewrite as rewrite
 use Rattle.queues.specs.Rewrite.{resized, rewrite_in}
-use Rattle.queues.specs.Delete.{less, others_than, slots_but, clear_all, shut, emptied, swept, delete_from}
+use Rattle.queues.specs.Delete.{less, others_than, slots_but, clear_all, shut_at, shut, emptied, swept, answer, delete_from}
 use Rattle.queues.specs.Laws.Typed.{Typed, all_below, set_below, entries_le, owners_long, entries_long}
 use Rattle.queues.specs.Laws.Stands.{QueuesHold}
+use Rattle.queues.specs.Laws.Place.{at_found}
 use Rattle.queues.specs.Laws.Paste.{paste_long, paste_bytes}
 use Rattle.queues.specs.Laws.Grown.{ready}
 use Rattle.queues.specs.Laws.Rows.{place_few}
@@ -119,7 +117,7 @@ module _ (q : Queues) (t : Typed q) where
   }
 
   shut_typed : (n : ℕ) → Typed (shut q n)
-  unfolding shut
+  unfolding shut_at
   shut_typed n =
       let r = row_of q n in
       record {
@@ -173,8 +171,8 @@ module _ (q : Queues) (t : Typed q) where
   pub delete_typed : (n : ℕ) → Typed (delete_from q n).queues
   unfolding delete_from swept
   delete_typed n =
-      let invalid : Deleted = record { queues = q; outcome = deleting.Invalid } in
-      let unknown : Deleted = record { queues = q; outcome = deleting.UnknownQueue } in
+      let invalid : Deleted = answer q (Err Invalid) in
+      let unknown : Deleted = answer q (Err UnknownQueue) in
       let gone : Deleted = swept (shut q n) n in
       let T : Deleted → Type 0 = λ (r : Deleted). Typed r.queues in
       pick_elim T (eqb n (blank 8)) invalid (pick (has n (names_of q)) gone unknown) (λ _. t)
@@ -183,7 +181,7 @@ module _ (q : Queues) (t : Typed q) where
   pub read_typed : (n p room : ℕ) → Typed (read_in q n p room).queues
   read_typed n p room =
       read_elim q n p room (λ (r : Read). Typed r.queues) (λ _. t) (λ _ _. t) (λ _ _ _. t)
-      (λ _ _ g. point_typed q t n p (omega (arith, place_few q t n p (leb-false 128 (slot_in q n p) g))))
+      (λ _ _ k g. point_typed q t n p (omega (arith, place_few q t.owner_long n p k g)))
 
   pub next_typed : (n room : ℕ) → Typed (read_next_in q n room).queues
   unfolding read_next_in
@@ -203,23 +201,23 @@ module _ (q : Queues) (b : List ℕ) (k : Kept q b) (n : ℕ) (item : List ℕ) 
   pub rewrite_kept : (p : ℕ) → Kept (rewrite_in q b n p item).rewritten.queues (rewrite_in q b n p item).items
   rewrite_kept p =
       rewrite_elim q b n p item (λ (r : rewrite.Lent). Kept r.rewritten.queues r.items) (λ _. k) (λ _ _. k) (λ _ _ _. k) (λ _ _ _ _. k)
-      (λ _ f _ o.
-      let h : slot_in q n p < 128 = leb-false 128 (slot_in q n p) o in
+      (λ _ f _ j o.
+      let h : j < 128 = (at_found q.len (slots_in q n) p j o).below in
       let m : length item ≤ 64 = short item f in
       record {
-        typed = resized_typed q k.typed (slot_in q n p) (length item) (omega arith);
-        long = paste_long b item (slot_in q n p) k.long h m;
-        bytes = paste_bytes b item (slot_in q n p) k.long h m k.bytes y;
+        typed = resized_typed q k.typed j (length item) (omega arith);
+        long = paste_long b item j k.long h m;
+        bytes = paste_bytes b item j k.long h m k.bytes y;
       })
 
   module _ (s : QueuesHold q) (w : n < 2 ^ 64) (may : ℕ) where
     abbrev Keeps : append.Lent → Type 0
     Keeps r = Kept r.appended.queues r.items
 
-    slot_kept : (r : Queues) → Typed r → length item ≤ 64 → (x : Slot) → free_for may q.used ≡ x → Keeps (in_slot r b n item x)
+    slot_kept : (r : Queues) → Typed r → length item ≤ 64 → (x : Option ℕ) → free_for may q.used ≡ x → Keeps (in_slot r b n item x)
     unfolding stored
-    slot_kept r t m Full z = record { typed = t; long = k.long; bytes = k.bytes }
-    slot_kept r t m (At j) z =
+    slot_kept r t m None z = record { typed = t; long = k.long; bytes = k.bytes }
+    slot_kept r t m (Some j) z =
         let h : j < 128 = (free_at q.used k.typed.words may j z).below in
         record {
           typed = put_typed r t n (length item) j w (omega arith) (omega arith);

@@ -1,13 +1,13 @@
 -- Rewrite: the cases of the exact definition, and that from sound queues it does what the model's plan says and leaves sound queues. The
 -- items of a queue lie in slots of their own, so that one item changes and no other. Assumes nothing.
-use Rattle.std.specs.Prelude.{◌≡◌, refl, Bool, false, not, ℕ, zero, suc, ◌+◌, ◌-◌, ◌*◌, ◌<◌, ◌≤◌, eqb, leb, ltb, drop, set}
+use Rattle.std.specs.Prelude.{◌≡◌, refl, Bool, false, not, ℕ, zero, suc, ◌+◌, ◌-◌, ◌*◌, ◌<◌, ◌≤◌, eqb, leb, ltb, drop, set, Option, Some, None, Ok, Err}
 use Rattle.std.proofs.Common.{sym, ◌∙◌, subst, arith, get_or-set_other}
 use Rattle.std.proofs.Math.Path.{ap}
 use Rattle.std.proofs.Math.Bool.{true}
 use mathlib.Core.List.{List, [], ◌∷◌, map}
 use Rattle.std.proofs.Math.ListN.{length, take, get_or}
 use Rattle.std.proofs.Math.Seq.{paste, get_or-set_same}
-use borrow.Author.Tests.{eqb-true, eqb-false, le-leb, leb-true, leb-false, lt-leb, ltb-false, not-false, not-true}
+use borrow.Author.Tests.{eqb-true, eqb-false, le-leb, leb-true, ltb-false, not-false, not-true}
 use Rattle.base.specs.Choice.{pick}
 use Rattle.base.specs.Lists.{all, has, copies, once}
 use Rattle.base.specs.Bytes.{blank}
@@ -19,13 +19,13 @@ use Rattle.model.specs.Plans.{Plan, Outcome, first_of, obey}
 use Rattle.model.specs.Queues.{Queue, at_queue, rewritten, rewrite}
 use Rattle.base.specs.Laws.Tests.{or_false_l, or_false_r}
 use Rattle.queues.specs.declared.Queues.{Queues}
-use Rattle.queues.specs.declared.rewrite.Rewriting.TheVariants.{WrongLength, UnknownQueue, NoSuchItem, Invalid}
+use Rattle.queues.specs.declared.rewrite.RewriteError.TheVariants.{WrongLength, UnknownQueue, NoSuchItem, Invalid}
 use Rattle.queues.specs.declared.rewrite.Rewritten.{Rewritten}
 use Rattle.queues.specs.Table.{names_of, pointers_of, owners, places, slots_of, slots_in, contents}
 use Rattle.queues.specs.Model.{items_of, queues_of}
 use Rattle.queues.specs.Sound.{length_in, sound_q, Did}
 use Rattle.queues.specs.Place.{has_item, slot_in}
-use Rattle.queues.specs.Rewrite.{condition_of, resized, Lent, lent, answer, put_in, rewrite_in}
+use Rattle.queues.specs.Rewrite.{condition_of, resized, Lent, lent, answer, at_slot, rewrite_in}
 use Rattle.queues.specs.Laws.Typed.{Typed}
 use Rattle.queues.specs.Laws.From.{from_at}
 use Rattle.queues.specs.Laws.Paste.{paste_there, paste_other}
@@ -37,50 +37,34 @@ use Rattle.queues.specs.Laws.Rows.{faulty, clear, slots_have, no_place_lem}
 -- ---- the cases
 
 module _ (q : Queues) (b : List ℕ) (n p : ℕ) (item : List ℕ) where
-  abbrev pub s : ℕ
-  s = slot_in q n p
+  abbrev pub done : ℕ → Lent
+  done k = answer (resized q k (length item)) (paste b (k * 64) item (length item)) (Ok tt)
 
   pub rewrite_elim : (P : Lent → Type 0)
-      → (eqb n (blank 8) ≡ true → P (answer q b Invalid))
-      → (eqb n (blank 8) ≡ false → wrong item ≡ true → P (answer q b WrongLength))
-      → (eqb n (blank 8) ≡ false → wrong item ≡ false → has n (names_of q) ≡ false → P (answer q b UnknownQueue))
-      → (eqb n (blank 8) ≡ false → wrong item ≡ false → has n (names_of q) ≡ true → leb 128 s ≡ true → P (answer q b NoSuchItem))
-      → (eqb n (blank 8) ≡ false → wrong item ≡ false → has n (names_of q) ≡ true → leb 128 s ≡ false → P (put_in q b item s))
+      → (eqb n (blank 8) ≡ true → P (answer q b (Err Invalid)))
+      → (eqb n (blank 8) ≡ false → wrong item ≡ true → P (answer q b (Err WrongLength)))
+      → (eqb n (blank 8) ≡ false → wrong item ≡ false → has n (names_of q) ≡ false → P (answer q b (Err UnknownQueue)))
+      → (eqb n (blank 8) ≡ false → wrong item ≡ false → has n (names_of q) ≡ true → slot_in q n p ≡ None → P (answer q b (Err NoSuchItem)))
+      → (eqb n (blank 8) ≡ false → wrong item ≡ false → has n (names_of q) ≡ true → (k : ℕ) → slot_in q n p ≡ Some k → P (done k))
       → P (rewrite_in q b n p item)
   unfolding rewrite_in
   rewrite_elim P a w u o d =
-      let fourth : Lent = pick (leb 128 s) (answer q b NoSuchItem) (put_in q b item s) in
-      let third : Lent = pick (not (has n (names_of q))) (answer q b UnknownQueue) fourth in
-      let second : Lent = pick (wrong item) (answer q b WrongLength) third in
-      pick_elim P (eqb n (blank 8)) (answer q b Invalid) second a
+      let fourth : Lent = at_slot q b item (slot_in q n p) in
+      let third : Lent = pick (not (has n (names_of q))) (answer q b (Err UnknownQueue)) fourth in
+      let second : Lent = pick (wrong item) (answer q b (Err WrongLength)) third in
+      pick_elim P (eqb n (blank 8)) (answer q b (Err Invalid)) second a
       (λ e.
-      pick_elim P (wrong item) (answer q b WrongLength) third (w e)
+      pick_elim P (wrong item) (answer q b (Err WrongLength)) third (w e)
       (λ f.
-      pick_elim P (not (has n (names_of q))) (answer q b UnknownQueue) fourth (λ g. u e f (not-true (has n (names_of q)) g))
+      pick_elim P (not (has n (names_of q))) (answer q b (Err UnknownQueue)) fourth (λ g. u e f (not-true (has n (names_of q)) g))
       (λ g.
       let k : has n (names_of q) ≡ true = not-false (has n (names_of q)) g in
-      pick_elim P (leb 128 s) (answer q b NoSuchItem) (put_in q b item s) (o e f k) (d e f k))))
-
-  pub rewrite_invalid : eqb n (blank 8) ≡ true → answer q b Invalid ≡ rewrite_in q b n p item
-  unfolding rewrite_in
-  rewrite_invalid e = rw e
-
-  pub rewrite_length : eqb n (blank 8) ≡ false → wrong item ≡ true → answer q b WrongLength ≡ rewrite_in q b n p item
-  unfolding rewrite_in
-  rewrite_length e f = rw (e, f)
-
-  module _ (e : eqb n (blank 8) ≡ false) (f : wrong item ≡ false) where
-    pub rewrite_unknown : has n (names_of q) ≡ false → answer q b UnknownQueue ≡ rewrite_in q b n p item
-    unfolding rewrite_in
-    rewrite_unknown g = rw (e, f, g)
-
-    pub rewrite_none : has n (names_of q) ≡ true → 128 ≤ slot_in q n p → answer q b NoSuchItem ≡ rewrite_in q b n p item
-    unfolding rewrite_in
-    rewrite_none g h = rw (e, f, g, le-leb 128 s h)
-
-    pub rewrite_done : has n (names_of q) ≡ true → slot_in q n p < 128 → put_in q b item (slot_in q n p) ≡ rewrite_in q b n p item
-    unfolding rewrite_in
-    rewrite_done g h = rw (e, f, g, lt-leb 128 s h)
+      slot_case (o e f k) (d e f k) (slot_in q n p) refl)))
+    where
+      slot_case : (slot_in q n p ≡ None → P (answer q b (Err NoSuchItem))) → ((k : ℕ) → slot_in q n p ≡ Some k → P (done k))
+          → (x : Option ℕ) → slot_in q n p ≡ x → P (at_slot q b item x)
+      slot_case o d None z = o z
+      slot_case o d (Some k) z = d k z
 
 -- ---- slots of their own
 
@@ -132,21 +116,24 @@ module _ {A : Type 0} (f g : ℕ → A) (p : ℕ → Bool) (x : ℕ) (same : (y 
 -- ---- one slot's item another
 
 module _ (q : Queues) (t : Typed q) (h : QueuesHold q) (b : List ℕ) (long : length b ≡ 8192) (n p : ℕ) (item : List ℕ)
-    (fits : length item ≤ 64) (below : slot_in q n p < 128) where
-  abbrev k : ℕ
-  k = slot_in q n p
+    (fits : length item ≤ 64) (k : ℕ) (found : slot_in q n p ≡ Some k) where
+  at : At q.len (slots_in q n) p k
+  at = at_found q.len (slots_in q n) p k found
+
+  below : k < 128
+  below = at.below
 
   abbrev q' : Queues
-  q' = resized q (slot_in q n p) (length item)
+  q' = resized q k (length item)
 
   abbrev b' : List ℕ
-  b' = paste b (slot_in q n p * 64) item (length item)
+  b' = paste b (k * 64) item (length item)
 
   here : contents q' b' k ≡ item
   unfolding resized
   here =
       ap (λ (m : ℕ). take m (drop (k * 64) b')) (get_or-set_same q.len k (length item) 0 (rw t.len_long below))
-      ∙ paste_there b (k * 64) item (omega arith)
+      ∙ paste_there b (k * 64) item (omega (arith, below))
 
   elsewhere : (y : ℕ) → has_item q.len y ≡ true → eqb y k ≡ false → contents q' b' y ≡ contents q b y
   unfolding resized
@@ -155,9 +142,6 @@ module _ (q : Queues) (t : Typed q) (h : QueuesHold q) (b : List ℕ) (long : le
       let ne : y ≡ k → ⊥ = eqb-false y k d in
       ap (λ (j : ℕ). take j (drop (y * 64) b')) (get_or-set_other q.len k y (length item) 0 ne)
       ∙ paste_other b item k long below fits y m ne (leb-true m 64 (and_r (ltb y 128) (leb m 64) a))
-
-  at : At q.len (slots_in q n) p
-  at = at_found q.len (slots_in q n) p below
 
   index_lt : p - 1 < length (slots_in q n)
   index_lt = omega (arith, at.from, at.to)
@@ -209,7 +193,7 @@ module _ (q : Queues) (t : Typed q) (h : QueuesHold q) (b : List ℕ) (long : le
       rw m (and_i (le-leb 1 (length item) some) (le-leb (length item) 64 fits)))
       (λ e. rw (get_or-set_other q.len k y (length item) 0 (eqb-false y k e)) a)
 
-  kept_sound : 1 ≤ length item → sound_q (resized q (slot_in q n p) (length item)) ≡ true
+  kept_sound : 1 ≤ length item → sound_q (resized q k (length item)) ≡ true
   unfolding resized
   kept_sound some =
       let laid = h.laid in
@@ -256,17 +240,17 @@ module _ (q : Queues) (t : Typed q) (h : QueuesHold q) (b : List ℕ) (long : le
       (λ e f. faulty l P.checks P.effect 3 (rw (e, f)))
       (λ e f g. faulty l P.checks P.effect 1 (rw (e, f, known_of_lem q b t n, g)))
       (λ e f g o. faulty l P.checks P.effect 2 (rw (e, f, known_of_lem q b t n, g, no_place_lem q t h b n p, o)))
-      (λ e f g o.
+      (λ e f g k o.
       ap (λ (x : List Queue). record { condition = 0; number = 0; bytes = []; state = x })
-      (stands q t h b long n p item (short f) (leb-false 128 (slot_in q n p) o))
+      (stands q t h b long n p item (short f) k o)
       ∙ clear l P.checks P.effect (rw (e, f, known_of_lem q b t n, g, no_place_lem q t h b n p, o)))
 
   rewrite_sound : sound_q q ≡ true → sound_q (rewrite_in q b n p item).rewritten.queues ≡ true
   rewrite_sound y =
       rewrite_elim q b n p item (λ (r : Lent). sound_q r.rewritten.queues ≡ true) (λ _. y) (λ _ _. y) (λ _ _ _. y) (λ _ _ _ _. y)
-      (λ _ f _ o.
+      (λ _ f _ k o.
       let one : 1 ≤ length item = leb-true 1 (length item) (not-false (some item) (or_false_l (not (some item)) (ltb 64 (length item)) f)) in
-      kept_sound q t h b long n p item (short f) (leb-false 128 (slot_in q n p) o) one)
+      kept_sound q t h b long n p item (short f) k o one)
 
 -- ---- the promise of the function
 

@@ -1,112 +1,59 @@
--- The search for a queue's item at a place, one entry a turn. Assumes nothing.
-use Rattle.std.specs.Prelude.{◌≡◌, false, ◌||◌, List, ℕ, suc, ◌+◌, ◌-◌, ◌<◌, ◌≤◌, eqb, leb, ltb, take, drop, get_or}
-use Rattle.std.proofs.Common.{sym, ap, ◌∙◌, arith}
+-- The slot of a queue's item at a place. Assumes nothing.
+use Rattle.std.specs.Prelude.{◌≡◌, ◌||◌, List, ℕ, ◌-◌, ◌<◌, ◌≤◌, eqb, leb, ltb, get_or, slice_get, Option, Some, None, is_none}
+use Rattle.std.proofs.Common.{sym, arith}
 use Rattle.std.proofs.Math.Bool.{true}
-use Rattle.std.proofs.Math.ListN.{length, get_or-eq_default}
-use borrow.Author.Tests.{eq-eqb, ne_eqb, eqb-false, le-ltb, lt-ltb, ltb-true, ltb-false, le-leb, lt-leb, leb-true}
+use Rattle.std.proofs.Math.ListN.{length}
+use Rattle.std.proofs.lemmas.Option.{slice_get_within, slice_get_past, get_or_from_slice_get, slice_get-get_or}
+use borrow.Author.Tests.{eqb-false, ltb-true, ltb-false, leb-true}
 use Rattle.base.specs.Lists.{all}
 use Rattle.base.specs.Laws.Tests.{by_test, and_l, and_r}
 use Rattle.base.specs.Laws.Keep.{all_get_d}
-use Rattle.base.specs.Laws.Scans.{left_cons, left_end}
-use Rattle.queues.specs.Table.{slots_of}
-use Rattle.queues.specs.Place.{has_item, slot_at}
-
-module _ (os ss : List ℕ) (n m : ℕ) (ho : n ≤ length os) (hs : n ≤ length ss) (i k : ℕ) where
-  -- the slot behind k others, from entry i on
-  abbrev pub seek : ℕ
-  seek = get_or (slots_of m (drop i (take n os)) (drop i (take n ss))) k 128
-
-  pub seek_end : n ≤ i → seek ≡ 128
-  seek_end h = rw (left_end os n i (omega arith))
-
-  module _ (h : i < n) where
-    pub seek_here : get_or os i 0 ≡ m → k ≡ 0 → seek ≡ get_or ss i 0
-    seek_here e z =
-        rw (z, left_cons os n i 0 h (omega arith), left_cons ss n i 0 h (omega arith), eq-eqb (get_or os i 0) m e)
-
-    pub seek_miss : (get_or os i 0 ≡ m → ⊥) → get_or (slots_of m (drop (i + 1) (take n os)) (drop (i + 1) (take n ss))) k 128 ≡ seek
-    seek_miss d = rw (left_cons os n i 0 h (omega arith), left_cons ss n i 0 h (omega arith), ne_eqb (get_or os i 0) m d)
-
-  pub seek_past : i < n → get_or os i 0 ≡ m → (k ≡ 0 → ⊥)
-      → get_or (slots_of m (drop (i + 1) (take n os)) (drop (i + 1) (take n ss))) (k - 1) 128 ≡ seek
-  seek_past h e d =
-      let p : k ≡ suc (k - 1) = omega arith in
-      let s : seek ≡ get_or (slots_of m (drop i (take n os)) (drop i (take n ss))) (suc (k - 1)) 128 =
-      ap (λ (x : ℕ). get_or (slots_of m (drop i (take n os)) (drop i (take n ss))) x 128) p in
-      sym (s ∙ (rw (left_cons os n i 0 h (omega arith), left_cons ss n i 0 h (omega arith), eq-eqb (get_or os i 0) m e)))
+use Rattle.queues.specs.Place.{has_item, with_item, slot_at}
 
 -- ---- the slot at a place
 
--- n is how many entries there are
-pub counted : (os ss : List ℕ) (n h m i s : ℕ) → n ≡ h → s ≡ get_or (slots_of m (take n os) (take n ss)) i 128
-    → s ≡ get_or (slots_of m (take h os) (take h ss)) i 128
-counted os ss n h m i s e f = rw e at f
-
-module _ (len ss : List ℕ) (p s : ℕ) where
-  pub at_zero : p ≡ 0 → 128 ≡ slot_at len ss p
-  unfolding slot_at
-  at_zero z = rw (eq-eqb p 0 z)
-
-  module _ (d : p ≡ 0 → ⊥) (is : s ≡ get_or ss (p - 1) 128) where
-    pub at_past : 128 ≤ s → 128 ≡ slot_at len ss p
-    unfolding slot_at
-    at_past h = rw (ne_eqb p 0 d, ← is, le-ltb s 128 h)
-
-    pub at_long : s < 128 → 64 < get_or len s 0 → 128 ≡ slot_at len ss p
-    unfolding slot_at
-    at_long h l = rw (ne_eqb p 0 d, ← is, lt-ltb s 128 h, lt-leb (get_or len s 0) 64 l)
-
-    pub at_slot : s < 128 → get_or len s 0 ≤ 64 → s ≡ slot_at len ss p
-    unfolding slot_at
-    at_slot h l = rw (ne_eqb p 0 d, ← is, lt-ltb s 128 h, le-leb (get_or len s 0) 64 l)
-
--- where a slot is found, the place is one of the queue's, and the slot is the one there
-pub record At (len ss : List ℕ) (p : ℕ) : Type 0 where
+-- where a slot is found, the place is one of the queue's, the slot is the one there, and it has an item
+pub record At (len ss : List ℕ) (p s : ℕ) : Type 0 where
   pub from : 1 ≤ p
   pub to : p ≤ length ss
-  pub is : slot_at len ss p ≡ get_or ss (p - 1) 128
-  pub short : get_or len (slot_at len ss p) 0 ≤ 64
+  pub is : s ≡ get_or ss (p - 1) 128
+  pub below : s < 128
+  pub short : get_or len s 0 ≤ 64
 
 module _ (len ss : List ℕ) (p : ℕ) where
-  abbrev slot : ℕ
-  slot = get_or ss (p - 1) 128
+  with_item_some : (x : Option ℕ) (s : ℕ) → with_item len x ≡ Some s → (x ≡ Some s) × (has_item len s ≡ true)
+  with_item_some None s e = absurd (cc)
+  with_item_some (Some r) s e =
+      by_test (has_item len r)
+      (λ f. let is : r ≡ s = let g = rw f at e in cc in (cc, (rw is at f)))
+      (λ f. absurd (let g = rw f at e in cc))
 
-  slot_in_lem : slot < 128 → p - 1 < length ss
-  slot_in_lem h =
-      by_test (ltb (p - 1) (length ss)) (ltb-true (p - 1) (length ss))
-      (λ e.
-      let z : slot ≡ 128 = get_or-eq_default ss 128 (ltb-false (p - 1) (length ss) e) in
-      absurd (omega arith))
-
-  found : eqb p 0 ≡ false → has_item len slot ≡ true → slot_at len ss p ≡ slot → At len ss p
-  found e f is =
-      let h : slot < 128 = ltb-true slot 128 (and_l (ltb slot 128) (leb (get_or len slot 0) 64) f) in
-      let l : get_or len slot 0 ≤ 64 = leb-true (get_or len slot 0) 64 (and_r (ltb slot 128) (leb (get_or len slot 0) 64) f) in
-      let d : p ≡ 0 → ⊥ = eqb-false p 0 e in
-      let b = slot_in_lem h in
-      let some : 1 ≤ p = omega arith in
-      record { from = some; to = omega arith; is = is; short = rw is l }
-
-  pub at_found : slot_at len ss p < 128 → At len ss p
+  pub at_found : (s : ℕ) → slot_at len ss p ≡ Some s → At len ss p s
   unfolding slot_at
-  at_found h =
-      by_test (eqb p 0) (λ e. let g : 128 < 128 = rw e at h in absurd (omega arith))
+  at_found s h =
+      by_test (eqb p 0) (λ e. absurd (let g = rw e at h in cc))
       (λ e.
-      by_test (has_item len slot) (λ f. found e f (rw (e, f)))
-      (λ f. let g : 128 < 128 = rw (e, f) at h in absurd (omega arith)))
+      let f = with_item_some (slice_get ss (p - 1)) s (rw e at h) in
+      let d : p ≡ 0 → ⊥ = eqb-false p 0 e in
+      let inside = slice_get_within ss (p - 1) s f.0 in
+      record {
+        from = omega arith;
+        to = omega arith;
+        is = sym (get_or_from_slice_get ss (p - 1) s 128 f.0);
+        below = ltb-true s 128 (and_l (ltb s 128) (leb (get_or len s 0) 64) f.1);
+        short = leb-true (get_or len s 0) 64 (and_r (ltb s 128) (leb (get_or len s 0) 64) f.1);
+      })
 
   -- where every slot has an item, a place has none exactly if it is not the queue's
-  pub at_none : all (has_item len) ss ≡ true → leb 128 (slot_at len ss p) ≡ (eqb p 0 || ltb (length ss) p)
+  pub at_none : all (has_item len) ss ≡ true → is_none (slot_at len ss p) ≡ (eqb p 0 || ltb (length ss) p)
   unfolding slot_at
   at_none h =
       by_test (eqb p 0) (λ e. rw e)
       (λ e.
       let d : p ≡ 0 → ⊥ = eqb-false p 0 e in
       by_test (ltb (length ss) p)
-      (λ f.
-      let past : length ss ≤ p - 1 = omega (arith, ltb-true (length ss) p f) in
-      rw (e, f, get_or-eq_default ss 128 past))
+      (λ f. let past : length ss ≤ p - 1 = omega (arith, ltb-true (length ss) p f) in rw (e, f, slice_get_past ss (p - 1) past))
       (λ f.
       let l : p ≤ length ss = ltb-false (length ss) p f in
-      let g : has_item len slot ≡ true = all_get_d (has_item len) ss (p - 1) 128 h (omega arith) in
-      rw (e, f, g) (lt-leb 128 slot (ltb-true slot 128 (and_l (ltb slot 128) (leb (get_or len slot 0) 64) g)))))
+      let inside : p - 1 < length ss = omega arith in
+      rw (e, f, slice_get-get_or ss (p - 1) 128 inside, all_get_d (has_item len) ss (p - 1) 128 h inside)))

@@ -1,27 +1,25 @@
 -- Read next and read at: the cases of the exact definition, where a part lies, and that from sound queues a read does what the model's plan
 -- says and leaves sound queues. Assumes nothing.
-use Rattle.std.specs.Prelude.{◌≡◌, refl, false, not, List, [], ◌∷◌, ℕ, ◌+◌, ◌*◌, ◌<◌, ◌≤◌, min, eqb, leb, ltb, length, take, drop, get_or, set}
+use Rattle.std.specs.Prelude.{◌≡◌, refl, false, not, List, [], ◌∷◌, ℕ, ◌+◌, ◌*◌, ◌<◌, ◌≤◌, min, eqb, leb, ltb, length, take, drop, get_or, set, Option, Some, None, Ok, Err}
 use Rattle.std.proofs.Common.{sym, ◌∙◌, arith, take-take, take_all}
 use Rattle.std.proofs.Math.Path.{ap, subst}
 use Rattle.std.proofs.Math.Bool.{true}
 use Rattle.std.proofs.Math.Seq.{take-set-lt}
-use borrow.Author.Tests.{eqb-true, le-leb, leb-true, leb-false, lt-leb, not-false, not-true}
+use borrow.Author.Tests.{eqb-true, le-leb, leb-true, leb-false, lt-ltb, le-ltb, ltb-true, ltb-false, not-false, not-true}
 use Rattle.base.specs.Choice.{pick}
 use Rattle.base.specs.Lists.{has, first_at, copies}
 use Rattle.base.specs.Bytes.{blank}
 use Rattle.base.specs.Laws.Tests.{by_test, and_l, and_r, and_i, pick_elim}
-use Rattle.model.specs.Plans.{Plan, Outcome, first_of, obey, cut}
+use Rattle.model.specs.Plans.{Plan, Outcome, first_of, obey, cut, normal, wrong_length}
 use Rattle.model.specs.Queues.{Queue, queue_of, at_queue, point_at, item_at, reading, read_next, read_at}
 use Rattle.queues.specs.declared.Queues.{Queues}
-use Rattle.queues.specs.declared.read.Part.{Part}
-use Rattle.queues.specs.declared.read.Reading.{Reading}
-use Rattle.queues.specs.declared.read.Reading.TheVariants.{Given, Cut, NoSuchItem, UnknownQueue, Invalid}
+use Rattle.queues.specs.declared.read.ReadError.TheVariants.{NoSuchItem, UnknownQueue, Invalid}
 use Rattle.queues.specs.declared.read.Read.{Read}
 use Rattle.queues.specs.Table.{names_of, pointers_of, owners, row_of, slots_in}
 use Rattle.queues.specs.Model.{queues_from, items_of, queues_of}
 use Rattle.queues.specs.Sound.{pointed, sound_q, Did}
 use Rattle.queues.specs.Place.{slot_in}
-use Rattle.queues.specs.Read.{condition_of, number_of, bytes_of, Inside, Lies, part_in, given, point_to, pointer_of, answer, read_in, read_next_in}
+use Rattle.queues.specs.Read.{condition_of, number_of, bytes_of, Lies, part_in, point_to, pointer_of, answer, at_slot, read_in, read_next_in}
 use Rattle.queues.specs.Laws.Typed.{Typed, rows_long}
 use Rattle.queues.specs.Laws.From.{from_point, from_same}
 use Rattle.queues.specs.Laws.Stands.{QueuesHold, holds, held_sound, known_of_lem}
@@ -31,79 +29,57 @@ use Rattle.queues.specs.Laws.Rows.{faulty, clear, known_row, slots_number, no_pl
 -- ---- the cases
 
 module _ (q : Queues) (n p room : ℕ) where
-  abbrev pub done : Read
-  done = answer (point_to q n p) (given room (part_in q room (slot_in q n p)))
+  abbrev pub done : ℕ → Read
+  done k = answer (point_to q n p) (Ok (part_in q room k))
 
   pub read_elim : (P : Read → Type 0)
-      → (eqb n (blank 8) ≡ true → P (answer q Invalid))
-      → (eqb n (blank 8) ≡ false → has n (names_of q) ≡ false → P (answer q UnknownQueue))
-      → (eqb n (blank 8) ≡ false → has n (names_of q) ≡ true → leb 128 (slot_in q n p) ≡ true → P (answer q NoSuchItem))
-      → (eqb n (blank 8) ≡ false → has n (names_of q) ≡ true → leb 128 (slot_in q n p) ≡ false → P done)
+      → (eqb n (blank 8) ≡ true → P (answer q (Err Invalid)))
+      → (eqb n (blank 8) ≡ false → has n (names_of q) ≡ false → P (answer q (Err UnknownQueue)))
+      → (eqb n (blank 8) ≡ false → has n (names_of q) ≡ true → slot_in q n p ≡ None → P (answer q (Err NoSuchItem)))
+      → (eqb n (blank 8) ≡ false → has n (names_of q) ≡ true → (k : ℕ) → slot_in q n p ≡ Some k → P (done k))
       → P (read_in q n p room)
   unfolding read_in
   read_elim P a u o d =
-      let third : Read = pick (leb 128 (slot_in q n p)) (answer q NoSuchItem) done in
-      let second : Read = pick (not (has n (names_of q))) (answer q UnknownQueue) third in
-      pick_elim P (eqb n (blank 8)) (answer q Invalid) second a
+      let third : Read = at_slot q n p room (slot_in q n p) in
+      let second : Read = pick (not (has n (names_of q))) (answer q (Err UnknownQueue)) third in
+      pick_elim P (eqb n (blank 8)) (answer q (Err Invalid)) second a
       (λ e.
-      pick_elim P (not (has n (names_of q))) (answer q UnknownQueue) third (λ f. u e (not-true (has n (names_of q)) f))
-      (λ f.
-      let k : has n (names_of q) ≡ true = not-false (has n (names_of q)) f in
-      pick_elim P (leb 128 (slot_in q n p)) (answer q NoSuchItem) done (o e k) (d e k)))
+      pick_elim P (not (has n (names_of q))) (answer q (Err UnknownQueue)) third (λ f. u e (not-true (has n (names_of q)) f))
+      (λ f. slot_case (o e (not-false (has n (names_of q)) f)) (d e (not-false (has n (names_of q)) f)) (slot_in q n p) refl))
+    where
+      slot_case : (slot_in q n p ≡ None → P (answer q (Err NoSuchItem))) → ((k : ℕ) → slot_in q n p ≡ Some k → P (done k))
+          → (x : Option ℕ) → slot_in q n p ≡ x → P (at_slot q n p room x)
+      slot_case o d None z = o z
+      slot_case o d (Some k) z = d k z
 
-  pub read_invalid : eqb n (blank 8) ≡ true → answer q Invalid ≡ read_in q n p room
+  pub read_invalid : eqb n (blank 8) ≡ true → answer q (Err Invalid) ≡ read_in q n p room
   unfolding read_in
   read_invalid e = rw e
 
-  pub read_unknown : eqb n (blank 8) ≡ false → has n (names_of q) ≡ false → answer q UnknownQueue ≡ read_in q n p room
+  pub read_unknown : eqb n (blank 8) ≡ false → has n (names_of q) ≡ false → answer q (Err UnknownQueue) ≡ read_in q n p room
   unfolding read_in
   read_unknown e f = rw (e, f)
 
-  pub read_none : eqb n (blank 8) ≡ false → has n (names_of q) ≡ true → 128 ≤ slot_in q n p → answer q NoSuchItem ≡ read_in q n p room
+  pub read_none : eqb n (blank 8) ≡ false → has n (names_of q) ≡ true → slot_in q n p ≡ None → answer q (Err NoSuchItem) ≡ read_in q n p room
   unfolding read_in
-  read_none e f g = rw (e, f, le-leb 128 (slot_in q n p) g)
+  read_none e f g = rw (e, f, g)
 
-  pub read_done : eqb n (blank 8) ≡ false → has n (names_of q) ≡ true → slot_in q n p < 128
-      → answer (point_to q n p) (given room (part_in q room (slot_in q n p))) ≡ read_in q n p room
+  pub read_done : eqb n (blank 8) ≡ false → has n (names_of q) ≡ true → (k : ℕ) → slot_in q n p ≡ Some k → done k ≡ read_in q n p room
   unfolding read_in
-  read_done e f g = rw (e, f, lt-leb 128 (slot_in q n p) g)
+  read_done e f k g = rw (e, f, g)
 
 -- ---- where a part lies
 
-no_part : (o : Reading) → ((p : Part) → o ≡ Given p → ⊥) → ((p : Part) → o ≡ Cut p → ⊥) → Lies o
-no_part o a b = record { whole = λ p e. absurd (a p e); less = λ p e. absurd (b p e) }
-
-given_lies : (room : ℕ) (p : Part) → Inside p → Lies (given room p)
-given_lies room p i =
-    pick_elim Lies (ltb room p.full) (Cut p) (Given p)
-    (λ _.
-    record {
-      whole = λ x e. absurd (let z : ◌≡◌ {A = ℕ} 0 1 = cc in omega arith);
-      less = λ x e. let z : p ≡ x = cc in subst Inside z i;
-    })
-    (λ _.
-    record {
-      whole = λ x e. let z : p ≡ x = cc in subst Inside z i;
-      less = λ x e. absurd (let z : ◌≡◌ {A = ℕ} 0 1 = cc in omega arith);
-    })
-
 pub read_lies : (q : Queues) (n p room : ℕ) → Lies (read_in q n p room).outcome
 read_lies q n p room =
-    read_elim q n p room (λ (r : Read). Lies r.outcome)
-    (λ _. no_part Invalid (λ x e. let z : ◌≡◌ {A = ℕ} 0 1 = cc in omega arith) (λ x e. let z : ◌≡◌ {A = ℕ} 0 1 = cc in omega arith))
-    (λ _ _. no_part UnknownQueue (λ x e. let z : ◌≡◌ {A = ℕ} 0 1 = cc in omega arith) (λ x e. let z : ◌≡◌ {A = ℕ} 0 1 = cc in omega arith))
-    (λ _ _ _. no_part NoSuchItem (λ x e. let z : ◌≡◌ {A = ℕ} 0 1 = cc in omega arith) (λ x e. let z : ◌≡◌ {A = ℕ} 0 1 = cc in omega arith))
-    (λ _ _ g.
-    let h : slot_in q n p < 128 = leb-false 128 (slot_in q n p) g in
-    let m : get_or q.len (slot_in q n p) 0 ≤ 64 = (at_found q.len (slots_in q n) p h).short in
-    given_lies room (part_in q room (slot_in q n p)) (record { fits = omega arith; part = omega arith; short = m }))
+    read_elim q n p room (λ (r : Read). Lies r.outcome) (λ _. tt) (λ _ _. tt) (λ _ _ _. tt)
+    (λ _ _ k g.
+    let a = at_found q.len (slots_in q n) p k g in
+    record { fits = omega (arith, a.below, a.short); part = omega arith; short = a.short })
 
 -- ---- a cut-off read, and a whole one
 
 module _ {S : Type 0} (st : S) (room at m : ℕ) (b x : List ℕ) (is : x ≡ take m (drop at b)) (long : length x ≡ m) where
-  abbrev shown : Reading → Outcome S
-  shown o = record { condition = condition_of o; number = number_of o; bytes = bytes_of b o; state = st }
-
   -- as many bytes as there is room for
   fitting : take (min m room) (drop at b) ≡ take room x
   fitting =
@@ -117,15 +93,19 @@ module _ {S : Type 0} (st : S) (room at m : ℕ) (b x : List ℕ) (is : x ≡ ta
       let k : min m room ≡ m = omega arith in
       ap (λ (j : ℕ). take j (drop at b)) k ∙ sym is ∙ sym (take_all room x (omega arith)))
 
-  abbrev it : Part
-  it = record { at = at; full = m; len = min m room }
+  -- what fits is less than the item exactly where the room is
+  short_room : ltb (min m room) m ≡ ltb room m
+  short_room =
+      by_test (ltb room m)
+      (λ e. let h : min m room < m = omega (arith, ltb-true room m e) in rw e (lt-ltb (min m room) m h))
+      (λ e. let h : m ≤ min m room = omega (arith, ltb-false room m e) in rw e (le-ltb (min m room) m h))
 
-  pub cut_is : record { condition = condition_of (given room it); number = number_of (given room it); bytes = bytes_of b (given room it); state = st }
+  pub cut_is : record { condition = pick (ltb (min m room) m) wrong_length normal; number = m; bytes = take (min m room) (drop at b); state = st }
       ≡ cut st room x
   cut_is =
       by_test (ltb room m)
-      (λ e. rw (e, long, e, fitting))
-      (λ e. rw (e, long, e, fitting))
+      (λ e. rw (short_room, long, e, fitting))
+      (λ e. rw (short_room, long, e, fitting))
 
 -- ---- the pointer moved
 
@@ -198,16 +178,12 @@ module _ (q : Queues) (t : Typed q) (s : QueuesHold q) (b : List ℕ) (long : le
     state = queues_of r.queues b;
   }
 
-  slot_below : leb 128 (slot_in q n p) ≡ false → slot_in q n p < 128
-  slot_below g = leb-false 128 (slot_in q n p) g
-
-  done_told : has n (names_of q) ≡ true → leb 128 (slot_in q n p) ≡ false → told (done q n p room) ≡ P.effect
-  done_told f g =
-      let h = slot_below g in
-      ap (λ (x : List Queue). record { condition = condition_of (done q n p room).outcome; number = number_of (done q n p room).outcome; bytes = bytes_of b (done q n p room).outcome; state = x })
+  done_told : has n (names_of q) ≡ true → (k : ℕ) → slot_in q n p ≡ Some k → told (done q n p room k) ≡ P.effect
+  done_told f k g =
+      ap (λ (x : List Queue). record { condition = condition_of (done q n p room k).outcome; number = number_of (done q n p room k).outcome; bytes = bytes_of b (done q n p room k).outcome; state = x })
       (point_stands q t n p f s b)
-      ∙ cut_is (at_queue n (point_at p) l) room (slot_in q n p * 64) (get_or q.len (slot_in q n p) 0) b (item_at (queue_of l n) p) (item_at_lem q t s b n p f h)
-      (ap length (item_at_lem q t s b n p f h) ∙ item_long q t s b n p f h long)
+      ∙ cut_is (at_queue n (point_at p) l) room (k * 64) (get_or q.len k 0) b (item_at (queue_of l n) p) (item_at_lem q t s b n p k f g)
+      (ap length (item_at_lem q t s b n p k f g) ∙ item_long q t s b n p k f g long)
 
   read_told : told (read_in q n p room) ≡ obey l (first_of P.checks) P.effect
   read_told =
@@ -215,13 +191,13 @@ module _ (q : Queues) (t : Typed q) (s : QueuesHold q) (b : List ℕ) (long : le
       (λ e. faulty l P.checks P.effect 9 (rw e))
       (λ e f. faulty l P.checks P.effect 1 (rw (e, known_of_lem q b t n, f)))
       (λ e f g. faulty l P.checks P.effect 2 (rw (e, known_of_lem q b t n, f, no_place_lem q t s b n p, g)))
-      (λ e f g. done_told f g ∙ clear l P.checks P.effect (rw (e, known_of_lem q b t n, f, no_place_lem q t s b n p, g)))
+      (λ e f k g. done_told f k g ∙ clear l P.checks P.effect (rw (e, known_of_lem q b t n, f, no_place_lem q t s b n p, g)))
 
   read_sound : sound_q q ≡ true → sound_q (read_in q n p room).queues ≡ true
   read_sound h =
       read_elim q n p room (λ (r : Read). sound_q r.queues ≡ true) (λ _. h) (λ _ _. h) (λ _ _ _. h)
-      (λ _ f g.
-      point_sound q t n p f s (omega (arith, (at_found q.len (slots_in q n) p (slot_below g)).to, slots_number q t s b n)))
+      (λ _ f k g.
+      point_sound q t n p f s (omega (arith, (at_found q.len (slots_in q n) p k g).to, slots_number q t s b n)))
 
   pub read_did : sound_q q ≡ true → (r : Read) → r ≡ read_in q n p room
       → Did q b r.queues b (reading (queues_of q b) n p room) (condition_of r.outcome) (number_of r.outcome) (bytes_of b r.outcome)

@@ -1,6 +1,6 @@
 -- A queue of a struct: the row of its name, the slot at a place, and the item there as the model has it. Assumes nothing.
-use Rattle.std.specs.Prelude.{◌≡◌, refl, true, false, ◌&&◌, ◌||◌, List, [], ◌∷◌, map, ℕ, zero, suc, ◌-◌, ◌<◌, ◌≤◌, eqb, leb, ltb, length, get_or}
-use Rattle.std.proofs.Common.{sym, ◌∙◌, arith, lt-ltb}
+use Rattle.std.specs.Prelude.{◌≡◌, refl, true, false, ◌&&◌, ◌||◌, List, [], ◌∷◌, map, ℕ, zero, suc, ◌-◌, ◌<◌, ◌≤◌, eqb, leb, ltb, length, get_or, Some, is_none}
+use Rattle.std.proofs.Common.{sym, ◌∙◌, arith, length-take, lt-ltb}
 use Rattle.std.proofs.Math.Path.{ap}
 use Rattle.std.proofs.Math.ListN.{get_or-eq_default}
 use Rattle.base.specs.Lists.{all, has, copies}
@@ -10,11 +10,11 @@ use Rattle.slots.specs.Bits.{used_at}
 use Rattle.model.specs.Queues.{Queue, queue_of, no_items, no_place, item_at}
 use Rattle.model.specs.Plans.{Check, Outcome, first_of, fault, obey}
 use Rattle.queues.specs.declared.Queues.{Queues}
-use Rattle.queues.specs.Table.{rows_in, names_of, pointers_of, owners, places, row_of, slots_of, slots_in, contents}
+use Rattle.queues.specs.Table.{rows_in, names_of, pointers_of, entries, owners, places, row_of, slots_of, slots_in, contents}
 use Rattle.queues.specs.Model.{items_of, queues_of}
 use Rattle.queues.specs.Sound.{length_in}
 use Rattle.queues.specs.Place.{has_item, slot_in}
-use Rattle.queues.specs.Laws.Typed.{Typed, entries_le, owners_long, entries_long, names_count, rows_long}
+use Rattle.queues.specs.Laws.Typed.{Typed, entries_long, names_count, rows_long}
 use Rattle.queues.specs.Laws.From.{slots_count, slots_all}
 use Rattle.queues.specs.Laws.Stands.{QueuesHold, all_both, known_of_lem, queue_of_lem, number_of_lem, used_below, contents_long}
 use Rattle.queues.specs.Laws.Place.{At, at_found, at_none}
@@ -43,16 +43,16 @@ module _ (q : Queues) (t : Typed q) (n : ℕ) where
   pub known_row : has n (names_of q) ≡ true → row_of q n < rows_in q
   known_row e = omega (arith, first_at_lt (λ m. eqb m n) (names_of q) e, names_count q t)
 
-  -- a place that has a slot is at most as many as there are entries
-  pub place_few : (p : ℕ) → slot_in q n p < 128 → p ≤ 128
-  place_few p h =
-      omega (arith, (at_found q.len (slots_in q n) p h).to, slots_few n (owners q) (places q), owners_long q t, entries_le q t)
-    where
-      slots_few : (n : ℕ) (os ss : List ℕ) → length (slots_of n os ss) ≤ length os
-      slots_few n [] ss = omega arith
-      slots_few n (o ∷ os) [] = omega arith
-      slots_few n (o ∷ os) (s ∷ ss) =
-          by_test (eqb o n) (λ e. rw e (omega (arith, slots_few n os ss))) (λ e. rw e (omega (arith, slots_few n os ss)))
+-- a place that has a slot is at most as many as there are entries
+pub place_few : (q : Queues) → length q.owner ≡ 128 → (n p k : ℕ) → slot_in q n p ≡ Some k → p ≤ 128
+place_few q l n p k h =
+    omega (arith, (at_found q.len (slots_in q n) p k h).to, slots_few n (owners q) (places q), length-take (entries q) q.owner)
+  where
+    slots_few : (n : ℕ) (os ss : List ℕ) → length (slots_of n os ss) ≤ length os
+    slots_few n [] ss = omega arith
+    slots_few n (o ∷ os) [] = omega arith
+    slots_few n (o ∷ os) (s ∷ ss) =
+        by_test (eqb o n) (λ e. rw e (omega (arith, slots_few n os ss))) (λ e. rw e (omega (arith, slots_few n os ss)))
 
 -- ---- sound queues
 
@@ -74,7 +74,7 @@ module _ (q : Queues) (t : Typed q) (s : QueuesHold q) (b : List ℕ) (n : ℕ) 
   slots_number = slots_count n (owners q) (places q) (entries_long q t)
 
   -- "NoneLeft!, OutOfBounds!"
-  pub no_place_lem : (p : ℕ) → no_place (queue_of (queues_of q b) n) p ≡ leb 128 (slot_in q n p)
+  pub no_place_lem : (p : ℕ) → no_place (queue_of (queues_of q b) n) p ≡ is_none (slot_in q n p)
   no_place_lem p =
       ap (λ (k : ℕ). eqb p 0 || ltb k p) (number_of_lem q b t s n ∙ sym slots_number) ∙ sym (at_none q.len (slots_in q n) p slots_have)
 
@@ -93,11 +93,11 @@ module _ (q : Queues) (t : Typed q) (s : QueuesHold q) (b : List ℕ) (n : ℕ) 
   item_in_lem zero (x ∷ ss) h = refl
   item_in_lem (suc i) (x ∷ ss) h = item_in_lem i ss (omega arith)
 
-  module _ (p : ℕ) (known : has n (names_of q) ≡ true) (below : slot_in q n p < 128) where
-    abbrev at : At q.len (slots_in q n) p
-    at = at_found q.len (slots_in q n) p below
+  module _ (p k : ℕ) (known : has n (names_of q) ≡ true) (found : slot_in q n p ≡ Some k) where
+    abbrev at : At q.len (slots_in q n) p k
+    at = at_found q.len (slots_in q n) p k found
 
-    pub item_at_lem : item_at (queue_of (queues_of q b) n) p ≡ contents q b (slot_in q n p)
+    pub item_at_lem : item_at (queue_of (queues_of q b) n) p ≡ contents q b k
     unfolding items_of
     item_at_lem =
         let a = at in
@@ -105,5 +105,5 @@ module _ (q : Queues) (t : Typed q) (s : QueuesHold q) (b : List ℕ) (n : ℕ) 
         ∙ item_in_lem (p - 1) (slots_in q n) (omega (arith, a.from, a.to))
         ∙ ap (contents q b) (sym a.is)
 
-    pub item_long : length b ≡ 8192 → length (contents q b (slot_in q n p)) ≡ get_or q.len (slot_in q n p) 0
-    item_long l = contents_long q b t l (slot_in q n p) below at.short
+    pub item_long : length b ≡ 8192 → length (contents q b k) ≡ get_or q.len k 0
+    item_long l = let a = at in contents_long q b t l k a.below a.short

@@ -5,4 +5,4 @@ use Rattle.records.specs.Laws.{shaped_row}
 use Rattle.records.proofs.formed.Goals as goal
 
 pub returns : goal.returns
-returns c = record { exact = c.shaped.ensures.exact ∙ shaped_row _ _ c.row_of-row.ensures.exact _ c.command.ensures.exact }
+returns c = record { exact = c.shaped.ensures.exact ∙ shaped_row _ _ c.row_of-size.ensures.exact _ c.command.ensures.exact }

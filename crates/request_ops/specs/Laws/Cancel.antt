@@ -1,44 +1,36 @@
 -- What a cancel comes to, case by case, as the code finds it. Assumes nothing.
-use Rattle.std.specs.Prelude.{◌≡◌, ℕ, ◌<◌, ◌≤◌, Bool, true, false, List, length, slice_index_or}
-use Rattle.std.proofs.Common.{sym, ap, ◌∙◌, arith}
-use borrow.Author.Tests.{eq-eqb, ne_eqb, lt-ltb, le-ltb}
+use Rattle.std.specs.Prelude.{◌≡◌, ℕ, true, false, Some, None, position, slice_index_or}
+use Rattle.std.proofs.Common.{sym, ap, ◌∙◌}
+use borrow.Author.Tests.{eq-eqb, ne_eqb}
 use Rattle.base.specs.Bytes.{blank}
-use Rattle.base.specs.Lists.{any}
-use Rattle.base.specs.Laws.Keep.{first_at_any}
 use Rattle.model.specs.Plans.{invalid_request, not_found, fault, done}
 use Rattle.request_rows.specs.declared.Request.{Request}
 use Rattle.request_rows.specs.Rows.{no_row, decode, is_active, active, named}
-use Rattle.request_rows.specs.Table.{Requests, view_of, live}
+use Rattle.request_rows.specs.Table.{Requests, live}
 use Rattle.request_rows.specs.Remove.{remove_at, place_of}
 use Rattle.request_rows.specs.Cancel.{cancel_in}
-use Rattle.request_rows.specs.Laws.View.{live_at}
+use Rattle.request_ops.specs.Laws.Found as laws
 
 module _ (t : Requests) (n : ℕ) where
   pub cancel_blank : n ≡ blank 8 → fault t invalid_request ≡ cancel_in t n
   unfolding cancel_in
   cancel_blank e = rw (eq-eqb n (blank 8) e)
 
-  module _ (ne : n ≡ blank 8 → ⊥) (i : ℕ) (e : i ≡ place_of t n) where
-    pub cancel_none : length (live t) ≤ i → fault t not_found ≡ cancel_in t n
+  module _ (ne : n ≡ blank 8 → ⊥) where
+    pub cancel_none : position (named n) (live t) ≡ None → fault t not_found ≡ cancel_in t n
     unfolding cancel_in
-    cancel_none h = rw (ne_eqb n (blank 8) ne, first_at_any (named n) (live t), le-ltb (place_of t n) (length (live t)) (omega arith))
+    cancel_none e = rw (ne_eqb n (blank 8) ne, laws.not_found (named n) (live t) e)
 
-    module _ (h : i < length (live t)) (b : Bool) (eb : active (slice_index_or (live t) i no_row) ≡ b) where
-      found : any (named n) (live t) ≡ true
-      found = first_at_any (named n) (live t) ∙ lt-ltb (place_of t n) (length (live t)) (omega arith)
+    module _ (i : ℕ) (e : position (named n) (live t) ≡ Some i) (q : Request) (eq : q ≡ decode (slice_index_or (live t) i no_row)) where
+      there : is_active q.phase ≡ active (slice_index_or (live t) (place_of t n) no_row)
+      there =
+          ap (λ (x : Request). is_active x.phase) eq
+          ∙ ap (λ (k : ℕ). active (slice_index_or (live t) k no_row)) (sym (laws.found_at (named n) (live t) i e))
 
-      there : active (slice_index_or (live t) (place_of t n) no_row) ≡ b
-      there = ap (λ (k : ℕ). active (slice_index_or (live t) k no_row)) (sym e) ∙ eb
-
-      pub cancel_active : b ≡ true → fault t not_found ≡ cancel_in t n
+      pub cancel_active : is_active q.phase ≡ true → fault t not_found ≡ cancel_in t n
       unfolding cancel_in
-      cancel_active f = rw (ne_eqb n (blank 8) ne, found, there ∙ f)
+      cancel_active f = rw (ne_eqb n (blank 8) ne, laws.found (named n) (live t) i e, sym there ∙ f)
 
-      pub cancelled : b ≡ false → done (remove_at t i) 0 ≡ cancel_in t n
+      pub cancelled : is_active q.phase ≡ false → done (remove_at t i) 0 ≡ cancel_in t n
       unfolding cancel_in
-      cancelled f = rw (ne_eqb n (blank 8) ne, found, there ∙ f, e)
-
--- of a live row that was read, whether it is active
-pub seen : (w : List ℕ) (i : ℕ) → i < length (live (view_of w)) → (q : Request) → q ≡ decode (slice_index_or (view_of w).rows i no_row)
-    → (b : Bool) → b ≡ is_active q.phase → active (slice_index_or (live (view_of w)) i no_row) ≡ b
-seen w i h q e b f = sym (f ∙ ap (λ (x : Request). is_active x.phase) e ∙ ap active (live_at w i h))
+      cancelled f = rw (ne_eqb n (blank 8) ne, laws.found (named n) (live t) i e, sym there ∙ f, laws.found_at (named n) (live t) i e)

@@ -1,132 +1,52 @@
--- Which row dispatch takes, one row a turn, and what is said and left. Assumes nothing.
-use Rattle.std.specs.Prelude.{◌≡◌, ℕ, ◌+◌, ◌%◌, ◌<◌, ◌≤◌, Bool, true, false, List, [], ◌∷◌, ◌++◌, length, take, slice_index_or, refl}
-use Rattle.std.proofs.Common.{sym, ap, ◌∙◌, arith, length-append}
+-- What is said and left, of the row that dispatch takes. Assumes nothing.
+use Rattle.std.specs.Prelude.{◌≡◌, ℕ, ◌%◌, ◌<◌, false, List, [], length, take, Some, position, slice_index_or}
+use Rattle.std.specs.Prelude as std
+use Rattle.std.proofs.Common.{sym, ap, ap₂, ◌∙◌, arith}
 use Rattle.std.proofs.Math.Seq.{take_all}
-use borrow.Author.Tests.{lt-ltb, le-ltb}
-use Rattle.base.specs.Lists.{keep, any, first_at, over}
-use Rattle.base.specs.Laws.Keep.{keep_append, first_at_any}
-use Rattle.base.specs.Laws.Scans.{read_cons}
-use Rattle.base.specs.Laws.Seeking.{counted, within, seeks_hit, seeks_on, seeks_end}
-use Rattle.words.specs.declared.said.Condition.TheVariants.{Normal, NotFound}
-use Rattle.words.specs.Said.{saying, gave, handed, told}
-use Rattle.words.specs.Laws.Said.{gave_told}
+use Rattle.base.specs.Lists.{keep, over}
+use Rattle.model.specs.Plans.{normal, Outcome}
+use Rattle.words.specs.declared.said.Condition.TheVariants.{NotFound}
+use Rattle.words.specs.Said.{plainly, handed, told}
 use Rattle.request_rows.specs.declared.Phase.TheVariants.{Active}
 use Rattle.request_rows.specs.declared.Request.{Request}
-use Rattle.request_rows.specs.Rows.{Row, no_row, decode, program_of, terminal_of, is_expired, in_phase, expired}
+use Rattle.request_rows.specs.Rows.{Row, no_row, decode, in_phase, expired}
 use Rattle.request_rows.specs.Table.{Requests, view_of, live, with_row}
-use Rattle.request_rows.specs.Dispatch.{clash, ready, passed_by, At, None, pick_in, bytes_for, dispatched, dispatch_in}
-use Rattle.request_rows.specs.Laws.View.{Seeks, live_sought, live_at}
-use Rattle.request_ops.specs.Dispatch.{Chosen, sixteen}
+use Rattle.request_rows.specs.Dispatch.{ready, At, None, pick_in, bytes_for, dispatched, dispatch_in}
+use Rattle.request_rows.specs.Laws.View.{live_at}
+use Rattle.request_ops.specs.declared.dispatch.Choice.{Choice}
+use Rattle.request_ops.specs.Dispatch.{chosen, sixteen}
+use Rattle.request_ops.specs.Laws.Found.{found_at, found_in, found, not_found}
 
--- ---- how many of the line are passed
-
-module _ (n : ℕ) (l : List Row) (i : ℕ) (hn : i < n) (hl : i < length l) where
-  abbrev row : Row
-  row = slice_index_or l i no_row
-
-  passed_step : keep expired (take (i + 1) (take n l)) ≡ keep expired (take i (take n l)) ++ keep expired (row ∷ [])
-  passed_step = ap (keep expired) (read_cons l n i no_row hn hl) ∙ keep_append expired (take i (take n l)) (row ∷ [])
-
-  passed_more : expired row ≡ true → passed_by (i + 1) (take n l) ≡ passed_by i (take n l) + 1
-  passed_more e =
-      let f : keep expired (row ∷ []) ≡ row ∷ [] = rw e in
-      ap length (passed_step ∙ ap (λ (r : List Row). keep expired (take i (take n l)) ++ r) f)
-      ∙ length-append (keep expired (take i (take n l))) (row ∷ [])
-
-  passed_same : expired row ≡ false → passed_by (i + 1) (take n l) ≡ passed_by i (take n l)
-  passed_same e =
-      let f : keep expired (row ∷ []) ≡ [] = rw e in
-      let z = length-append (keep expired (take i (take n l))) [] in
-      ap length (passed_step ∙ ap (λ (r : List Row). keep expired (take i (take n l)) ++ r) f) ∙ omega arith
-
--- ---- the search
-
-module _ (w : List ℕ) (m : ℕ) where
-  -- none of the rows before i can start, and k of them are in the line
-  pub record Passing (i k : ℕ) : Type 0 where
-    pub sought : Seeks (ready (live (view_of w))) w m i
-    pub line : k ≡ passed_by i (live (view_of w))
-    pub few : k ≤ i
-
-  pub passing_start : m ≡ length (live (view_of w)) → Passing 0 0
-  passing_start e = record { sought = live_sought w (ready (live (view_of w))) m e; line = refl; few = omega arith }
-
-  module _ (i k : ℕ) (v : Passing i k) where
-    pub passing_end : m ≤ i → Chosen (live (view_of w)) i k
-    passing_end h = record { row = seeks_end v.sought h; line = v.line }
-
-    module _ (h : i < m) (q : Request) (e : q ≡ decode (slice_index_or (view_of w).rows i no_row)) (b : Bool) (eb : b ≡ is_expired q.phase) where
-      abbrev here : Row
-      here = slice_index_or (view_of w).rows i no_row
-
-      lapsed : b ≡ expired here
-      lapsed = eb ∙ ap (λ (x : Request). is_expired x.phase) e
-
-      pub passing_other : b ≡ false → Passing (i + 1) k
-      passing_other f =
-          let x : expired here ≡ false = sym lapsed ∙ f in
-          let z = v.few in
-          record {
-            sought = seeks_on v.sought h no_row (rw x);
-            line = v.line ∙ sym (passed_same (view_of w).count (view_of w).rows i (counted v.sought h) (within v.sought h) x);
-            few = omega arith;
-          }
-
-      module _ (f : b ≡ true) (c : Bool) (ec : c ≡ any (clash q.program q.terminal) (live (view_of w))) where
-        held : c ≡ any (clash (program_of here) (terminal_of here)) (live (view_of w))
-        held = ec ∙ ap (λ (x : Request). any (clash x.program x.terminal) (live (view_of w))) e
-
-        pub passing_held : c ≡ true → Passing (i + 1) (k + 1)
-        passing_held g =
-            let x : expired here ≡ true = sym lapsed ∙ f in
-            let y = sym held ∙ g in
-            let z = v.few in
-            record {
-              sought = seeks_on v.sought h no_row (rw (x, y));
-              line =
-                  ap (λ (n : ℕ). n + 1) v.line
-                  ∙ sym (passed_more (view_of w).count (view_of w).rows i (counted v.sought h) (within v.sought h) x);
-              few = omega arith;
-            }
-
-        pub passing_hit : c ≡ false → Chosen (live (view_of w)) i k
-        passing_hit g =
-            let x : expired here ≡ true = sym lapsed ∙ f in
-            let y = sym held ∙ g in
-            record { row = seeks_hit v.sought h no_row (rw (x, y)); line = v.line }
-
--- ---- what is said and left
-
-module _ (t : Requests) (at passed : ℕ) (c : Chosen (live t) at passed) where
-  chosen_at : at < length (live t) → dispatched t (At at passed) ≡ dispatch_in t
+module _ (t : Requests) (c : Choice) (e : c ≡ chosen (live t)) where
+  pub dispatch_none : c.started ≡ std.None → told (plainly NotFound (c.passed % 4_294_967_296)) [] t ≡ dispatch_in t
   unfolding dispatch_in pick_in
-  chosen_at h =
+  dispatch_none h =
       let l = live t in
-      let r = c.row in
-      let y : any (ready l) l ≡ true = first_at_any (ready l) l ∙ lt-ltb (first_at (ready l) l) (length l) (omega arith) in
-      rw (y, c.line, r)
+      let p = sym (ap (λ (x : Choice). x.started) e) ∙ h in
+      rw (not_found (ready l) l p, e, p) (ap (λ (r : List Row). dispatched t (None (length (keep expired r)))) (take_all (length l) l (omega arith)))
 
-  chosen_none : length (live t) ≤ at → dispatched t (None passed) ≡ dispatch_in t
-  unfolding dispatch_in pick_in
-  chosen_none h =
-      let l = live t in
-      let r = c.row in
-      let y : any (ready l) l ≡ false = first_at_any (ready l) l ∙ le-ltb (first_at (ready l) l) (length l) (omega arith) in
-      rw (y, c.line, take_all at l h)
+  module _ (at : ℕ) (h : c.started ≡ Some at) where
+    taken : position (ready (live t)) (live t) ≡ Some at
+    taken = sym (ap (λ (x : Choice). x.started) e) ∙ h
 
-  pub dispatch_none : length (live t) ≤ at → told (saying NotFound (passed % 4_294_967_296) 0) [] t ≡ dispatch_in t
-  dispatch_none h = chosen_none h
+    pub dispatch_in_at : at < length (live t)
+    dispatch_in_at = found_in (ready (live t)) (live t) at taken
 
-module _ (w : List ℕ) (at passed : ℕ) (c : Chosen (live (view_of w)) at passed) (h : at < length (live (view_of w))) where
-  abbrev taken : Row
-  taken = slice_index_or (live (view_of w)) at no_row
+    pub dispatch_at : dispatched t (At at c.passed) ≡ dispatch_in t
+    unfolding dispatch_in pick_in
+    dispatch_at = let l = live t in rw (found (ready l) l at taken, found_at (ready l) l at taken, e, taken)
 
-  pub dispatch_hit : (q : Request) → q ≡ decode (slice_index_or (view_of w).rows at no_row)
+module _ (w : List ℕ) (c : Choice) (e : c ≡ chosen (live (view_of w))) (at : ℕ) (h : c.started ≡ Some at) where
+  abbrev taken_row : Row
+  taken_row = slice_index_or (live (view_of w)) at no_row
+
+  pub dispatch_hit : (q : Request) → q ≡ decode taken_row
       → (t' : Requests) → t' ≡ with_row (view_of w) at (in_phase (Active false) (slice_index_or (view_of w).rows at no_row))
-      → (b b' : List ℕ) → b' ≡ over (take (length b) (sixteen q)) b → gave (saying Normal (passed % 4_294_967_296) 16) t' b' ≡ handed (dispatch_in (view_of w)) b
-  dispatch_hit q e t' et b b' eb =
-      let k : sixteen q ≡ bytes_for taken = ap sixteen e ∙ ap bytes_for (live_at w at h) in
-      let s = et ∙ ap (λ (x : Row). with_row (view_of w) at (in_phase (Active false) x)) (live_at w at h) in
-      gave_told (saying Normal (passed % 4_294_967_296) 16) t' (dispatch_in (view_of w)) (bytes_for taken) b' b
-      (ap (told (saying Normal (passed % 4_294_967_296) 16) (bytes_for taken)) s ∙ chosen_at (view_of w) at passed c h)
-      refl (eb ∙ ap (λ (x : List ℕ). over (take (length b) x) b) k)
+      → (b b' : List ℕ) → b' ≡ over (take (length b) (sixteen q)) b
+      → record { condition = normal; number = c.passed % 4_294_967_296; len = 16; state = t'; body = b' } ≡ handed (dispatch_in (view_of w)) b
+  dispatch_hit q eq t' et b b' eb =
+      let k : sixteen q ≡ bytes_for taken_row = ap sixteen eq in
+      let s = et ∙ ap (λ (x : Row). with_row (view_of w) at (in_phase (Active false) x)) (live_at w at (dispatch_in_at (view_of w) c e at h)) in
+      let f : b' ≡ over (take (length b) (bytes_for taken_row)) b = eb ∙ ap (λ (x : List ℕ). over (take (length b) x) b) k in
+      ap₂ (λ (x : Requests) (y : List ℕ). record { condition = normal; number = c.passed % 4_294_967_296; len = 16; state = x; body = y }) s f
+      ∙ ap (λ (o : Outcome Requests). handed o b) (dispatch_at (view_of w) c e at h)

@@ -1,154 +1,65 @@
--- A start, as the code finds it out: what is refused, the pass over the requests, and what is left. Assumes nothing.
-use Rattle.std.specs.Prelude.{◌≡◌, ℕ, ◌+◌, ◌*◌, ◌<◌, ◌≤◌, Bool, true, false, not, ◌&&◌, ◌||◌, ltb, List, [], ◌∷◌, ◌++◌, length, take, ◌==◌, ◌≢◌, nat_lt, slice_index_or, slice_set, refl}
-use Rattle.std.proofs.Math.Path.{sym, ap}
-use Rattle.std.proofs.Common.{ap₂, ◌∙◌, arith, length-set, take_all}
-use borrow.Author.Tests.{eq-eqb, ne_eqb, lt-ltb, le-ltb, ltb-true, ltb-false}
+-- A start, as the code finds it out: what is refused, and what is left. Assumes nothing.
+use Rattle.std.specs.Prelude.{◌≡◌, ℕ, ◌+◌, ◌*◌, ◌/◌, ◌<◌, ◌≤◌, Bool, true, false, List, [], ◌∷◌, ◌++◌, length, nat_lt, position, slice_set, refl}
+use Rattle.std.specs.Option.{is_some}
+use Rattle.std.proofs.Common.{sym, ap, ap₂, ◌∙◌, arith, length-set, lt-ltb, le-ltb}
 use Rattle.base.specs.Choice.{pick}
-use Rattle.base.specs.Lists.{any, has}
-use Rattle.base.specs.Bytes.{blank, stored}
-use Rattle.base.specs.Laws.Tests.{and_l, and_r}
-use Rattle.base.specs.Laws.Keep.{first_at_any}
-use Rattle.base.specs.Laws.Scans.{read_cons}
-use Rattle.base.specs.Laws.Seeking.{counted, within, seeks_hit, seeks_on, seeks_end}
-use Rattle.slots.specs.Bits.{none, marked}
-use Rattle.slots.specs.declared.Used.{Used}
-use Rattle.model.specs.Plans.{normal, not_unique, no_space, Outcome, fault, done}
-use Rattle.model.specs.Interval.{Asked, none_or_known}
-use Rattle.words.specs.declared.said.Said.{Said}
-use Rattle.words.specs.Said.{gave, handed}
-use Rattle.names.specs.Names.{Names, names_in}
+use Rattle.base.specs.Lists.{any}
+use Rattle.base.specs.Bytes.{stored}
+use Rattle.base.specs.Laws.Tests.{and_none}
+use Rattle.model.specs.Plans.{not_unique, no_space, Outcome, fault, done}
+use Rattle.model.specs.Interval.{Asked}
+use Rattle.names.specs.Names.{Names}
 use Rattle.request_rows.specs.declared.Phase.{Phase}
-use Rattle.request_rows.specs.declared.Request.{Request}
-use Rattle.request_rows.specs.Rows.{Row, no_row, slot_of, decode, encode, named}
+use Rattle.request_rows.specs.Rows.{Row, named, encode}
 use Rattle.request_rows.specs.Table.{Requests, view_of, register_of, live, with_live, with_row, slots_in}
-use Rattle.request_rows.specs.Start.{begun_at, used_from, free_slot, room_in, Kept, kept, start_in}
-use Rattle.request_rows.specs.Laws.View.{Seeks, live_sought, with_count, view_count, live_more}
-use Rattle.request_ops.specs.Start.{refusal, Passed, slot_at, accept_in}
+use Rattle.request_rows.specs.Start.{begun_at, free_slot, Kept, kept, begin, start_in}
+use Rattle.request_rows.specs.Laws.View.{with_count, view_count, live_more}
+use Rattle.request_ops.specs.Start.{checked, roomed}
+use Rattle.request_ops.specs.Laws.Found.{some_found}
 
--- ---- the pass over the requests
-
-used_snoc : (u : Used) (l : List Row) (q : Row) → used_from u (l ++ (q ∷ [])) ≡ marked (used_from u l) (slot_of q)
-used_snoc u [] q = refl
-used_snoc u (r ∷ l) q = used_snoc (marked u (slot_of r)) l q
-
-module _ (w : List ℕ) (n m : ℕ) where
-  -- none of the rows before i has the name, and u are their slots
-  pub record Passing (i : ℕ) (u : Used) : Type 0 where
-    pub sought : Seeks (named n) w m i
-    pub used : u ≡ used_from none (take i (live (view_of w)))
-
-  pub passing_start : m ≡ length (live (view_of w)) → (u : Used) → u ≡ none → Passing 0 u
-  passing_start e u z = record { sought = live_sought w (named n) m e; used = z }
-
-  module _ (i : ℕ) (u : Used) (v : Passing i u) where
-    module _ (h : i < m) (q : Request) (e : q ≡ decode (slice_index_or (view_of w).rows i no_row)) where
-      pub passing_hit : q.name ≡ n → Passed (live (view_of w)) n i u
-      passing_hit f =
-          record { place = seeks_hit v.sought h no_row (eq-eqb _ _ (sym (ap (λ (x : Request). x.name) e) ∙ f)); used = v.used }
-
-      pub passing_on : (q.name ≢ n) → (k : ℕ) → k ≡ q.slot → (u' : Used) → u' ≡ marked u k → Passing (i + 1) u'
-      passing_on f k g u' s =
-          record {
-            sought = seeks_on v.sought h no_row (ne_eqb _ _ (λ z. f (ap (λ (x : Request). x.name) e ∙ z)));
-            used =
-                s ∙ ap₂ marked v.used (g ∙ ap (λ (x : Request). x.slot) e)
-                ∙ sym (used_snoc none (take i (live (view_of w))) (slice_index_or (view_of w).rows i no_row))
-                ∙ ap (used_from none) (sym (read_cons (view_of w).rows (view_of w).count i no_row (counted v.sought h) (within v.sought h)));
-          }
-
-    pub passing_end : m ≤ i → Passed (live (view_of w)) n i u
-    passing_end h = record { place = seeks_end v.sought h; used = v.used }
-
--- ---- what is said before that
-
-module _ {O : Type 0} (f : ℕ → O) (x y z v : ℕ) (rest : O) where
-  -- the first of four tests that holds
-  first_of_lem : (a b d e : Bool) (c : ℕ) → c ≡ pick a x (pick b y (pick d z (pick e v 0))) → (c ≢ 0)
-      → f c ≡ pick a (f x) (pick b (f y) (pick d (f z) (pick e (f v) rest)))
-  first_of_lem true b d e c k n = ap f k
-  first_of_lem false true d e c k n = ap f k
-  first_of_lem false false true e c k n = ap f k
-  first_of_lem false false false true c k n = ap f k
-  first_of_lem false false false false c k n = absurd (n k)
-
--- none of them holds
-none_of : (a b d e : Bool) → pick a 10 (pick b 4 (pick d 5 (pick e 6 normal))) ≡ normal → (a ≡ false) × (b ≡ false) × (d ≡ false) × (e ≡ false)
-none_of true b d e k = absurd (omega arith)
-none_of false true d e k = absurd (omega arith)
-none_of false false true e k = absurd (omega arith)
-none_of false false false true k = absurd (omega arith)
-none_of false false false false k = (refl, refl, refl, refl)
+-- ---- the tests in their order
 
 module _ (ps ts : Names) (t : Requests) (area : List ℕ) (a : Asked) where
-  abbrev refuses : ℕ
-  refuses = refusal ps ts a.name a.program a.terminal a.interval (length a.bytes)
+  abbrev here : Kept
+  here = kept t area
 
-  pub start_refused : (c : ℕ) → c ≡ refuses → (c ≢ 0) → fault (kept t area) c ≡ start_in ps ts t area a
-  unfolding start_in refusal
-  start_refused c e n =
-      first_of_lem (fault (kept t area)) 10 4 5 6 _ (a.name == blank 8 || nat_lt 359_999_000 a.interval) (nat_lt 64 (length a.bytes))
-      (not (has a.program (names_in ps))) (not (none_or_known a.terminal (names_in ts))) c e n
+  abbrev pub begun : Outcome Kept
+  begun = done (begin t area a (free_slot (live t))) 0
 
-  module _ (e : refuses ≡ normal) where
-    cleared : ((a.name == blank 8 || nat_lt 359_999_000 a.interval) ≡ false) × (nat_lt 64 (length a.bytes) ≡ false)
-        × (not (has a.program (names_in ps)) ≡ false) × (not (none_or_known a.terminal (names_in ts)) ≡ false)
-    unfolding refusal
-    cleared =
-        none_of (a.name == blank 8 || nat_lt 359_999_000 a.interval) (nat_lt 64 (length a.bytes))
-        (not (has a.program (names_in ps))) (not (none_or_known a.terminal (names_in ts))) e
+  parts : checked ps ts a here (pick (any (named a.name) (live t)) (fault here not_unique) (roomed t area here begun)) ≡ start_in ps ts t area a
+  unfolding start_in checked roomed
+  parts = refl
 
-    pub start_small : length a.bytes ≤ 64
-    start_small = ltb-false 64 (length a.bytes) cleared.1
+  -- before the requests are looked at
+  pub start_refused : (x : Outcome Kept) → ((o : Outcome Kept) → x ≡ checked ps ts a here o) → x ≡ start_in ps ts t area a
+  start_refused x h = h _ ∙ parts
 
-    start_accepted : accept_in t area a ≡ start_in ps ts t area a
-    unfolding start_in accept_in
-    start_accepted = rw (cleared.0, cleared.1, cleared.2, cleared.3)
+  module _ (h : (o : Outcome Kept) → o ≡ checked ps ts a here o) (b : Bool) (e : b ≡ is_some (position (named a.name) (live t))) where
+    known : b ≡ any (named a.name) (live t)
+    known = e ∙ some_found (named a.name) (live t)
 
-    pub start_said : (r : Said) (s : Kept) → ((b : List ℕ) → gave r s b ≡ handed (accept_in t area a) b)
-        → (b : List ℕ) → gave r s b ≡ handed (start_in ps ts t area a) b
-    start_said r s g b = g b ∙ ap (λ (o : Outcome Kept). handed o b) start_accepted
+    pub start_taken : b ≡ true → fault here not_unique ≡ start_in ps ts t area a
+    start_taken f = let k : any (named a.name) (live t) ≡ true = sym known ∙ f in rw k at (h _ ∙ parts)
 
--- ---- where nothing is refused
+    pub start_on : b ≡ false → (x : Outcome Kept) → x ≡ roomed t area here begun → x ≡ start_in ps ts t area a
+    start_on f x g = let k : any (named a.name) (live t) ≡ false = sym known ∙ f in g ∙ rw k at (h _ ∙ parts)
 
-module _ (t : Requests) (area : List ℕ) (a : Asked) (at : ℕ) (u : Used) (p : Passed (live t) a.name at u) where
-  found : any (named a.name) (live t) ≡ nat_lt at (length (live t))
-  found = first_at_any (named a.name) (live t) ∙ ap (λ (i : ℕ). ltb i (length (live t))) (sym p.place)
+-- ---- whether there is room
 
-  pub accept_taken : at < length (live t) → fault (kept t area) not_unique ≡ accept_in t area a
-  unfolding accept_in
-  accept_taken h = rw (found ∙ lt-ltb at (length (live t)) h)
+module _ (t : Requests) (area : List ℕ) where
+  pub room_there : (k : ℕ) → k ≡ free_slot (live t) → k < length area / 64 → k < 128 → length (live t) < length t.rows → (s : Kept) (o : Outcome Kept) → o ≡ roomed t area s o
+  unfolding roomed
+  room_there k e a b h s o = rw (lt-ltb (length (live t)) (length t.rows) h, sym e, lt-ltb k (slots_in area) (omega arith))
 
-  module _ (h : length (live t) ≤ at) (k : ℕ) (ek : k ≡ slot_at u) where
-    unique : any (named a.name) (live t) ≡ false
-    unique = found ∙ le-ltb at (length (live t)) h
+  pub no_row_left : length t.rows ≤ length (live t) → (s : Kept) (o : Outcome Kept) → fault s no_space ≡ roomed t area s o
+  unfolding roomed
+  no_row_left h s o = rw (le-ltb (length (live t)) (length t.rows) h)
 
-    slot : k ≡ free_slot (live t)
-    unfolding free_slot slot_at
-    slot = ek ∙ ap slot_at (p.used ∙ ap (used_from none) (take_all at (live t) h))
+  pub no_slot_left : slots_in area ≤ free_slot (live t) → (s : Kept) (o : Outcome Kept) → fault s no_space ≡ roomed t area s o
+  unfolding roomed
+  no_slot_left h s o = rw (le-ltb (free_slot (live t)) (slots_in area) h, sym (and_none (nat_lt (length (live t)) (length t.rows))))
 
-    module _ (m : ℕ) (em : m ≡ length (live t)) (b : Bool) (eb : b ≡ (nat_lt m (length t.rows) && nat_lt k (slots_in area))) where
-      room : b ≡ room_in t area
-      room = eb ∙ ap₂ (λ (i j : ℕ). nat_lt i (length t.rows) && nat_lt j (slots_in area)) em slot
-
-      pub accept_full : b ≡ false → fault (kept t area) no_space ≡ accept_in t area a
-      unfolding accept_in
-      accept_full f = rw (unique, sym room ∙ f)
-
-      abbrev begun_in : Phase → Request
-      begun_in ph = record { name = a.name; program = a.program; terminal = a.terminal; phase = ph; len = length a.bytes; slot = k }
-
-      pub accept_done : b ≡ true → (ph : Phase) → ph ≡ begun_at (register_of t) a.interval → (t' : Requests) (area' : List ℕ)
-          → t' ≡ with_live t (live t ++ (encode (begun_in ph) ∷ [])) → area' ≡ stored area (k * 64) a.bytes → done (kept t' area') 0 ≡ accept_in t area a
-      unfolding accept_in
-      accept_done f ph ep t' area' et ea = rw (unique, sym room ∙ f, et, ea, ep, slot)
-
--- where there is room
-module _ (t : Requests) (area : List ℕ) (m k : ℕ) (b : Bool) (eb : b ≡ (nat_lt m (length t.rows) && nat_lt k (slots_in area))) (f : b ≡ true) where
-  pub room_row : m < length t.rows
-  room_row = ltb-true m (length t.rows) (and_l (nat_lt m (length t.rows)) (nat_lt k (slots_in area)) (sym eb ∙ f))
-
-  pub room_slot : k < 128
-  room_slot = let h = ltb-true k (slots_in area) (and_r (nat_lt m (length t.rows)) (nat_lt k (slots_in area)) (sym eb ∙ f)) in omega arith
+-- ---- what is left
 
 -- one row more: stored, and counted
 pub row_more : (w w' : List ℕ) (m : ℕ) (q : Row) → m ≡ length (live (view_of w)) → m < length (view_of w).rows → view_of w' ≡ with_row (view_of w) m q
@@ -156,3 +67,9 @@ pub row_more : (w w' : List ℕ) (m : ℕ) (q : Row) → m ≡ length (live (vie
 row_more w w' m q e h f =
     let n : length (view_of w').rows ≡ length (view_of w).rows = ap (λ (t : Requests). length t.rows) f ∙ length-set (view_of w).rows m q in
     view_count w' (m + 1) (omega arith) ∙ ap (λ (t : Requests). with_count t (m + 1)) f ∙ live_more (view_of w) m q e h
+
+pub begun_with : (w w' area area' : List ℕ) (a : Asked) (m k : ℕ) (p : Phase) → m ≡ length (live (view_of w)) → m < length (view_of w).rows
+    → p ≡ begun_at (register_of (view_of w)) a.interval
+    → view_of w' ≡ with_row (view_of w) m (encode (record { name = a.name; program = a.program; terminal = a.terminal; phase = p; len = length a.bytes; slot = k }))
+    → area' ≡ stored area (k * 64) a.bytes → kept (view_of (slice_set w' 1 (m + 1))) area' ≡ begin (view_of w) area a k
+begun_with w w' area area' a m k p e h ep f g = ap₂ kept (row_more w w' m _ e h (f ∙ rw ep)) g

@@ -1,25 +1,15 @@
--- `put_request` meets its contract: four stores are a row. Assumes nothing.
-use Prim.Native.Nat.{ℕ, ◌+◌, ◌*◌}
-use mathlib.Core.Path.{◌∙◌, ap}
-use native.Mathlib.Omega.{arith}
-use Rattle.request_rows.specs.Laws.View.{rows_in_lem, view_put}
-use Rattle.request_rows.specs.Table.{view_of, with_row}
-use Rattle.request_rows.specs.Rows.{row}
+-- `put_request` meets its contract. Assumes nothing.
+use Rattle.std.proofs.Common.{ℕ, List, ◌+◌, ◌-◌, ◌*◌, ◌∙◌, ap, arith}
+use borrow.Rule.Slice.PartMut.{put_mid}
+use Rattle.request_rows.specs.Laws.View.{view_chunk}
+use Rattle.request_rows.specs.Table.{view_of}
+use Rattle.request_rows.specs.Rows.{encode}
 use Rattle.request_rows.proofs.put_request.Goals as goal
-
-pub overflow_mul-i : goal.overflow_mul-i
-overflow_mul-i c = omega (arith, rows_in_lem c.args.t.now)
-
-pub overflow_add-i : goal.overflow_add-i
-overflow_add-i c = omega (arith, rows_in_lem c.args.t.now)
-
-pub put_row-requires : goal.put_row-requires
-put_row-requires c = omega (arith, rows_in_lem c.args.t.now)
 
 pub returns-then-i-rows : goal.returns-then-i-rows
 returns-then-i-rows c =
     let a = c.args in
-    let q = row a.q.name (a.q.program * 4294967296 + a.q.terminal) c.phase_word.result (a.q.len + a.q.slot * 256) in record {
-      exact = ap view_of c.put_row.ensures ∙ view_put a.t.now a.i q (omega arith)
-          ∙ ap (λ (x : ℕ). with_row (view_of a.t.now) a.i (row a.q.name (a.q.program * 4294967296 + a.q.terminal) x (a.q.len + a.q.slot * 256))) c.phase_word.ensures.exact;
+    record {
+      exact = ap (λ (x : List ℕ). view_of (put_mid (2 + a.i * 4) (2 + a.i * 4 + 4 - (2 + a.i * 4)) a.t.now x)) (c.copy_from_slice.ensures.after ∙ c.from.ensures)
+          ∙ view_chunk a.t.now a.i (encode a.q) (omega arith);
     }

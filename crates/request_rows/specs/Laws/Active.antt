@@ -1,5 +1,5 @@
 -- Who is an active task is what the model says, at any clock; and what is known of its row. Assumes nothing.
-use Rattle.std.specs.Prelude.{ℕ, ◌<◌, ◌≡◌, refl, Bool, true, false, length, get_or}
+use Rattle.std.specs.Prelude.{ℕ, ◌<◌, ◌≡◌, refl, Bool, true, false, length, get_or, Some, None}
 use Rattle.std.proofs.Math.Path.{sym}
 use Rattle.std.proofs.Common.{ap, ◌∙◌, arith, eqb-true}
 use mathlib.Core.List.{List}
@@ -8,7 +8,6 @@ use Rattle.base.specs.Lists.{any, first, first_at}
 use Rattle.base.specs.Laws.Tests.{and_l, and_r}
 use Rattle.base.specs.Laws.Keep.{first_at_lt, first_passes, get_d_first_at}
 use Rattle.model.specs.Interval as model
-use Rattle.request_rows.specs.declared.Task.TheVariants.{At, Nobody}
 use Rattle.request_rows.specs.Rows.{Row, no_row, active, named}
 use Rattle.request_rows.specs.Table.{Requests, live}
 use Rattle.request_rows.specs.Active.{task, active_in, task_in}
@@ -17,11 +16,11 @@ use Rattle.request_rows.specs.Laws.Standing.{task_at}
 
 -- ---- a row, or none
 
-at_row : (b : Bool) (x i : ℕ) → pick b (At x) Nobody ≡ At i → (b ≡ true) × (x ≡ i)
+at_row : (b : Bool) (x i : ℕ) → pick b (Some x) None ≡ Some i → (b ≡ true) × (x ≡ i)
 at_row true x i e = (refl, cc)
 at_row false x i e = absurd (let z : ◌≡◌ {A = ℕ} 0 1 = cc in omega arith)
 
-no_row_lem : (b : Bool) (x : ℕ) → pick b (At x) Nobody ≡ Nobody → b ≡ false
+no_row_lem : (b : Bool) (x : ℕ) → pick b (Some x) None ≡ None → b ≡ false
 no_row_lem true x e = absurd (let z : ◌≡◌ {A = ℕ} 0 1 = cc in omega arith)
 no_row_lem false x e = refl
 
@@ -33,8 +32,8 @@ module _ (c : ℕ) (m : Memory) (n : ℕ) where
   active_stands = sym (task_at c m n)
 
   -- nobody exactly where the model knows no such task
-  pub nobody_stands : (task_in m.requests n ≡ Nobody → model.active_task (interval_at c m) n ≡ false)
-      × (model.active_task (interval_at c m) n ≡ false → task_in m.requests n ≡ Nobody)
+  pub nobody_stands : (task_in m.requests n ≡ None → model.active_task (interval_at c m) n ≡ false)
+      × (model.active_task (interval_at c m) n ≡ false → task_in m.requests n ≡ None)
   unfolding task_in
   nobody_stands =
       let l : List Row = live m.requests in
@@ -48,7 +47,7 @@ pub record There (t : Requests) (n i : ℕ) : Type 0 where
   pub name : (get_or (live t) i no_row).name ≡ n
   pub runs : active (get_or (live t) i no_row) ≡ true
 
-pub task_there : (t : Requests) (n i : ℕ) → task_in t n ≡ At i → There t n i
+pub task_there : (t : Requests) (n i : ℕ) → task_in t n ≡ Some i → There t n i
 unfolding task_in
 task_there t n i e =
     let l : List Row = live t in

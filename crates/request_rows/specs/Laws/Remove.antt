@@ -1,5 +1,5 @@
 -- Removing by a place is what the model does by the name that stands there, where names stand once. Assumes nothing.
-use Rattle.std.specs.Prelude.{ℕ, ◌<◌, ◌≡◌, refl, true, false, eqb, length, get_or}
+use Rattle.std.specs.Prelude.{ℕ, ◌<◌, ◌≡◌, refl, true, false, eqb, length, get_or, Some}
 use Rattle.std.proofs.Common.{sym, ◌∙◌, subst, arith}
 use Rattle.std.proofs.Math.Path.{ap}
 use Rattle.std.proofs.Math.Bool.{not}
@@ -12,7 +12,6 @@ use Rattle.base.specs.Laws.Maps.{keep_map}
 use Rattle.base.specs.Laws.Index.{cut_by_name}
 use Rattle.model.specs.Interval as model
 use Rattle.model.proofs.Laws.SoundInterval.{remove_sound}
-use Rattle.request_rows.specs.declared.Task.TheVariants.{At}
 use Rattle.request_rows.specs.Rows.{Row, no_row, named}
 use Rattle.request_rows.specs.Table.{Requests, live, with_live}
 use Rattle.request_rows.specs.Remove.{remove_at, place_of, remove_in}
@@ -74,7 +73,7 @@ module _ (c : ℕ) (m : Memory) (f : Fine c m) where
   remove_follows n = by_test (any (named n) (live m.requests)) (first_follows n) (none_follows n)
 
   -- the row of an active task
-  pub remove_at_follows : (n : ℕ) {i : ℕ} → task_in m.requests n ≡ At i
+  pub remove_at_follows : (n : ℕ) {i : ℕ} → task_in m.requests n ≡ Some i
       → (interval_at c (with_requests m (remove_at m.requests i)) ≡ model.remove (interval_at c m) n) × Fine c (with_requests m (remove_at m.requests i))
   remove_at_follows n {i} e =
       let r = task_there m.requests n i e in

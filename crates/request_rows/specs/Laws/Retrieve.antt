@@ -1,5 +1,5 @@
 -- Retrieving is what the model does: the own data once, else those of the first that serves, which goes. Assumes nothing.
-use Rattle.std.specs.Prelude.{ℕ, ◌≡◌, refl, Bool, true, false, List, length, get_or}
+use Rattle.std.specs.Prelude.{ℕ, ◌≡◌, refl, Bool, true, false, List, length, get_or, Some}
 use Rattle.std.proofs.Common.{sym, ◌∙◌, arith, lt-ltb}
 use Rattle.std.proofs.Math.Path.{ap}
 use Rattle.std.proofs.Math.Dec.{eqb}
@@ -12,7 +12,6 @@ use Rattle.model.specs.Plans.{end_of_data, Outcome, fault, cut, outcome_in, Foll
 use Rattle.model.specs.Interval as model
 use Rattle.model.proofs.Laws.SoundDispatch.{retrieve_sound}
 use Rattle.request_rows.specs.declared.Phase.TheVariants.{Active}
-use Rattle.request_rows.specs.declared.Task.TheVariants.{At}
 use Rattle.request_rows.specs.Rows.{Row, no_row, phase_of, program_of, terminal_of, in_phase, data_of, named}
 use Rattle.request_rows.specs.Table.{Requests, register_of, live, with_row}
 use Rattle.request_rows.specs.Active.{task, task_in}
@@ -121,6 +120,6 @@ module _ (c : ℕ) (m : Memory) (f : Fine c m) (n i room : ℕ) where
         by_test (has_own m.area q) (λ h. rw h (own_given h))
         (λ h. rw h (by_test (any serve l) (λ a. rw a (other_given h a)) (λ a. rw a (none_given h a))))
 
-  pub retrieve_follows : task_in m.requests n ≡ At i
+  pub retrieve_follows : task_in m.requests n ≡ Some i
       → Follows (interval_at c) (Fine c) (outcome_in (with_requests m) (retrieve_at m.requests m.area i room)) (interval_at c m) (model.retrieve (interval_at c m) n room)
   retrieve_follows e = given (task_there t n i e)

@@ -1,14 +1,12 @@
 -- The operations one after the other, any number of them, come to what they come to in the model, whose clock never wraps: from sound memory, at any
 -- clock that its register can mean (`ran`), and so from fresh memory of any sizes at any register value (`runs_fresh`). Assumes nothing.
-use Rattle.std.specs.Prelude.{ℕ, ◌%◌, ◌^◌, ◌≡◌, refl, true, List, [], ◌∷◌, length}
+use Rattle.std.specs.Prelude.{ℕ, ◌%◌, ◌^◌, ◌≡◌, refl, true, List, [], ◌∷◌, length, Option, Some, None}
 use Rattle.std.proofs.Common.{ap, ap₂, ◌∙◌, arith, ltb-true}
 use Rattle.base.specs.Lists.{all}
 use Rattle.base.specs.Laws.Tests.{by_test, and_l, and_r, both}
 use Rattle.model.specs.Limits.{Limits}
 use Rattle.model.specs.Plans.{Outcome, Plan, done, outcome_in, Follows}
 use Rattle.model.specs.Interval as model
-use Rattle.request_rows.specs.declared.Task.{Task}
-use Rattle.request_rows.specs.declared.Task.TheVariants.{At, Nobody}
 use Rattle.request_rows.specs.Active.{task_in}
 use Rattle.request_rows.specs.Runs.{Ask, Program, Terminal, Advance, AskTicks, Dispatch, Start, Cancel, Retrieve, Remove, in_range, retrieved, turn, obeyed, model_turn, Heard, heard, outcomes, left, model_outcomes, model_left}
 use Rattle.request_rows.specs.Stands.{Memory, limits_of, interval_at, Fine}
@@ -55,11 +53,11 @@ module _ (c : ℕ) (m : Memory) (y : Typed m) (f : Fine c m) where
   itself = record { typed = y; sizes = record { programs = refl; terminals = refl; register = refl; rows = refl; past = refl; area = refl } }
 
   -- there is nobody in the memory exactly where the model has no such task
-  retrieve_turned : (n room : ℕ) (x : Task) → task_in m.requests n ≡ x → Turned c m (retrieved m room x) (model_turn (limits_of m) (interval_at c m) (Retrieve n room))
-  retrieve_turned n room (At k) e =
+  retrieve_turned : (n room : ℕ) (x : Option ℕ) → task_in m.requests n ≡ x → Turned c m (retrieved m room x) (model_turn (limits_of m) (interval_at c m) (Retrieve n room))
+  retrieve_turned n room (Some k) e =
       by_test (model.active_task (interval_at c m) n) (λ on. rw on (by_plan (retrieve_follows c m f n k room e) (retrieve_kept m y k room)))
       (λ off. absurd (let z : ◌≡◌ {A = ℕ} 0 1 = cc ((nobody_stands c m n).1 off) in omega arith))
-  retrieve_turned n room Nobody e =
+  retrieve_turned n room None e =
       rw ((nobody_stands c m n).0 e) (record { clock = c; outcome = refl; fine = f; keeps = itself })
 
   pub turned : (a : Ask) → in_range a ≡ true → Turned c m (turn m a) (model_turn (limits_of m) (interval_at c m) a)

@@ -1,5 +1,5 @@
 -- The lowest free slot: it is no row's, and it is there exactly if there are fewer rows than slots, each with a slot of its own. Assumes nothing.
-use Rattle.std.specs.Prelude.{ℕ, zero, suc, ◌+◌, ◌/◌, ◌<◌, ◌≤◌, ◌≡◌, refl, true, false, not, ◌&&◌, List, [], ◌∷◌, ◌++◌, map, eqb, ltb, leb, length}
+use Rattle.std.specs.Prelude.{ℕ, zero, suc, ◌+◌, ◌/◌, ◌<◌, ◌≤◌, ◌≡◌, refl, true, false, not, ◌&&◌, List, [], ◌∷◌, ◌++◌, map, eqb, ltb, leb, length, Option, Some, None}
 use Rattle.std.proofs.Common.{suc-le-suc, sym, ap, ◌∙◌, arith, length-append, ltb-true, ltb-false, lt-ltb, eqb-true, le-leb}
 use Rattle.std.specs.Int.Count.{ones, ones_step}
 use Rattle.std.proofs.lemmas.List.{length-map}
@@ -12,8 +12,6 @@ use Rattle.base.specs.Laws.Counting.{has_map, once_snoc, pigeon}
 use Rattle.slots.specs.Bits.{bit, number, held, none, marked, free_for, lowest_clear}
 use Rattle.slots.specs.Told.{Typed}
 use Rattle.slots.specs.declared.Used.{Used}
-use Rattle.slots.specs.declared.Slot.{Slot}
-use Rattle.slots.specs.declared.Slot.TheVariants.{At, Full}
 use Rattle.slots.proofs.Laws.Slots.{none_typed, none_held, marked_bit, marked_typed, put_held, put_past}
 use Rattle.slots.proofs.Laws.Lowest.{lowest_is}
 use Rattle.slots.proofs.Laws.Free.{free_some, free_at}
@@ -89,9 +87,9 @@ used_has (q ∷ l) u t k b h =
     used_stays l (marked u (slot_of q)) (marked_typed u t (slot_of q)) k (marked_bit u t (slot_of q) k ∙ rw (z, eqb_same k, lt-ltb k 128 b)))
     (λ e. used_has l (marked u (slot_of q)) (marked_typed u t (slot_of q)) k b (rw e at h))
 
-slot_at_lem : (s : Slot) → slot_from s < 128 → s ≡ At (slot_from s)
-slot_at_lem (At j) b = refl
-slot_at_lem Full b = absurd (omega arith)
+slot_at_lem : (s : Option ℕ) → slot_from s < 128 → s ≡ Some (slot_from s)
+slot_at_lem (Some j) b = refl
+slot_at_lem None b = absurd (omega arith)
 
 -- the free slot is no row's
 pub slot_free : (l : List Row) → free_slot l < 128 → has (free_slot l) (map slot_of l) ≡ false

@@ -1,27 +1,53 @@
 -- The whole slice as a view: where a row stands in it, what a store in a row or in the head leaves, and the requests that count, as rows and as
 -- words. Assumes nothing.
-use Rattle.std.specs.Prelude.{ℕ, suc, ◌+◌, ◌*◌, ◌-◌, ◌/◌, ◌<◌, ◌≤◌, min, ◌≡◌, refl, Bool, List, [], ◌∷◌, ◌++◌, eqb, leb, length, take, drop, get_or, set}
-use Rattle.std.proofs.Common.{sym, ap, ap₂, ◌∙◌, arith, length-append, length-take, length-drop, get_or-take, leb-true, leb-false}
-use Rattle.std.proofs.Math.ListN.{get_or-eq_default}
+use Rattle.std.specs.Prelude.{ℕ, suc, ◌+◌, ◌*◌, ◌-◌, ◌/◌, ◌<◌, ◌≤◌, min, ◌≡◌, refl, Bool, List, [], ◌∷◌, ◌++◌, eqb, leb, ltb, length, take, drop, get_or, set, map, filter, position, Some, None}
+use Rattle.std.proofs.Common.{sym, ap, ap₂, ◌∙◌, arith, length-append, length-take, length-drop, get_or-take, take_all, leb-true, leb-false}
+use Rattle.std.proofs.lemmas.List.{length-map, take-map}
+use Rattle.std.proofs.Math.ListN.{get_or-eq_default, get_or-map}
 use Rattle.std.proofs.Math.Seq.{set_out}
+use Rattle.std.specs.List.{list_any}
+use Rattle.std.specs.Simd.{first_chunks}
 use borrow.Rule.Slice.PartMut.{put_mid}
 use Rattle.base.specs.Choice.{pick}
-use Rattle.base.specs.Lists.{first_at, over, cut_at}
+use Rattle.base.specs.Lists.{keep, any, first_at, over, cut_at}
 use Rattle.base.specs.Laws.Tests.{by_test}
 use Rattle.base.specs.Laws.Cut.{length_cut}
+use Rattle.base.specs.Laws.Library.{any_of, keep_of, position_of}
+use Rattle.base.specs.Laws.Maps.{any_map, keep_map, first_at_map}
 use Rattle.base.specs.Laws.Over.{over_put}
 use Rattle.base.specs.Laws.Scans.{take_least}
 use Rattle.base.specs.Laws.Seeking.{Sought, seeks_start}
 use Rattle.words.specs.Rows.{column, shut}
 use Rattle.request_rows.specs.declared.Phase.{Phase}
-use Rattle.request_rows.specs.Rows.{Row, row, no_row, rows_of, rest_of, words_of, flat, phase_word, in_phase, named}
+use Rattle.request_rows.specs.Rows.{Row, row, no_row, row_of, rows_of, rest_of, words_of, flat, phase_word, in_phase, named, decode}
 use Rattle.request_rows.specs.Table.{Requests, view_of, live, with_live, with_row}
-use Rattle.request_rows.specs.Laws.Words.{rows_flat, flat_rows, flat_rest, length_rows, row_read, row_put, phase_put, take_words, rows_shut}
+use Rattle.request_rows.specs.Laws.Words.{rows_flat, flat_rows, flat_rest, chunks_rows, length_rows, row_read, row_put, chunk_put, phase_put, take_words, rows_shut}
 
 -- ---- how many rows there are, and where one stands
 
 pub rows_in_lem : (w : List ℕ) → length (view_of w).rows ≡ (length w - 2) / 4
 rows_in_lem w = length_rows (drop 2 w) ∙ ap (λ (n : ℕ). n / 4) (length-drop 2 w)
+
+-- the words behind the head, where there is one
+past_head : (w : List ℕ) (k : ℕ) → k ≡ min 2 (length w) → drop k w ≡ drop 2 w
+past_head [] k e = rw e
+past_head (a ∷ []) k e = rw e
+past_head (a ∷ b ∷ l) k e = let d : k ≡ 2 = omega arith in rw d
+
+-- chunk by chunk
+pub rows_read : (w : List ℕ) (k : ℕ) → k ≡ min 2 (length w) → (x : List (List ℕ))
+    → x ≡ first_chunks 4 (length (take (length w - k) (drop k w)) / 4) (take (length w - k) (drop k w)) → map row_of x ≡ (view_of w).rows
+rows_read w k e x f =
+    let d : take (length w - k) (drop k w) ≡ drop 2 w = take_all (length w - k) (drop k w) (simp length-drop (omega arith)) ∙ past_head w k e in
+    ap (map row_of) f ∙ ap (λ (l : List ℕ). map row_of (first_chunks 4 (length l / 4) l)) d ∙ chunks_rows (drop 2 w)
+
+-- a row each
+pub rows_size : (w : List ℕ) (x : List (List ℕ)) → map row_of x ≡ (view_of w).rows → length x ≡ length (view_of w).rows
+rows_size w x e = sym (length-map x row_of) ∙ ap (λ (l : List Row). length l) e
+
+-- those that count
+pub live_read : (w : List ℕ) (n : ℕ) (x y : List (List ℕ)) → map row_of x ≡ (view_of w).rows → n ≡ (view_of w).count → y ≡ take n x → map row_of y ≡ live (view_of w)
+live_read w n x y e h f = ap (map row_of) f ∙ sym (take-map row_of n x) ∙ ap₂ (λ (i : ℕ) (l : List Row). take i l) h e
 
 -- behind the head
 behind : (n : ℕ) → 2 + n ≡ suc (suc n)
@@ -56,6 +82,14 @@ view_put (a ∷ []) i q h = absurd (omega arith)
 view_put (a ∷ b ∷ l) i q h =
     rw (behind_on (i * 4) 1, behind_on (i * 4) 2, behind_on (i * 4) 3, behind (i * 4))
     (view_behind a b l _ (set (rows_of l) i q) (row_put l i (omega (arith, length_rows l)) q))
+
+pub view_chunk : (w : List ℕ) (i : ℕ) (q : Row) → i < length (view_of w).rows
+    → view_of (put_mid (2 + i * 4) (2 + i * 4 + 4 - (2 + i * 4)) w (words_of (q ∷ []))) ≡ with_row (view_of w) i q
+view_chunk [] i q h = absurd (omega arith)
+view_chunk (a ∷ []) i q h = absurd (omega arith)
+view_chunk (a ∷ b ∷ l) i q h =
+    let n : 2 + i * 4 + 4 - (2 + i * 4) ≡ 4 = omega arith in
+    rw (n, behind (i * 4)) (view_behind a b l _ (set (rows_of l) i q) (chunk_put l i (omega (arith, length_rows l)) q))
 
 -- its phase
 pub view_phase : (w : List ℕ) (i : ℕ) (p : Phase) → i < length (view_of w).rows
@@ -156,3 +190,24 @@ view_shut (a ∷ b ∷ l) i m p e h d =
     ap₂ (λ (x : List ℕ) (j : ℕ). x ++ drop j l) q n
     ∙ rows_shut l i m (live v) (sym (ap (λ (j : ℕ). take j (rows_of l)) e ∙ live_first (a ∷ b ∷ l))) h (omega arith) in
     ap (λ (j : ℕ). view_of (a ∷ j ∷ (p ++ drop (2 + m * 4 - 2) l))) k ∙ view_behind a (length (cut_at i (live v))) l _ _ s
+
+-- ---- rows as they are lent, and the requests that they hold
+
+module _ (w : List (List ℕ)) (l : List Row) (e : map row_of w ≡ l) where
+  -- the request in one of them
+  pub read_rows : (i : ℕ) → decode (row_of (get_or w i [])) ≡ decode (get_or l i no_row)
+  read_rows i = ap decode (sym (get_or-map row_of w i []) ∙ ap (λ (r : List Row). get_or r i no_row) e)
+
+  pub any_rows : (p : Row → Bool) → list_any (λ x. p (row_of x)) w ≡ any p l
+  any_rows p = any_of (λ x. p (row_of x)) w ∙ sym (any_map row_of (λ x. p (row_of x)) p (λ x. refl) w) ∙ ap (any p) e
+
+  pub keep_rows : (p : Row → Bool) → length (filter (λ x. p (row_of x)) w) ≡ length (keep p l)
+  keep_rows p =
+      ap (λ (r : List (List ℕ)). length r) (keep_of (λ x. p (row_of x)) w) ∙ sym (length-map (keep (λ x. p (row_of x)) w) row_of)
+      ∙ ap (λ (r : List Row). length r) (sym (keep_map row_of (λ x. p (row_of x)) p (λ x. refl) w) ∙ ap (keep p) e)
+
+  pub position_rows : (p : Row → Bool) → position (λ x. p (row_of x)) w ≡ position p l
+  position_rows p =
+      let f : first_at (λ x. p (row_of x)) w ≡ first_at p l = sym (first_at_map row_of (λ x. p (row_of x)) p (λ x. refl) w) ∙ ap (first_at p) e in
+      let n : length w ≡ length l = sym (length-map w row_of) ∙ ap (λ (r : List Row). length r) e in
+      position_of (λ x. p (row_of x)) w ∙ ap₂ (λ (i j : ℕ). pick (ltb i j) (Some i) None) f n ∙ sym (position_of p l)

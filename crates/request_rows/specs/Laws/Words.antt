@@ -1,13 +1,15 @@
 -- Words as rows of four: each view undoes the other, and what a read, a store or a part of the words is of the rows. Assumes nothing.
-use Rattle.std.specs.Prelude.{ℕ, zero, suc, ◌+◌, ◌*◌, ◌-◌, ◌/◌, ◌<◌, ◌≤◌, ◌≡◌, refl, List, [], ◌∷◌, ◌++◌, length, take, drop, get_or, set}
+use Rattle.std.specs.Prelude.{ℕ, zero, suc, ◌+◌, ◌*◌, ◌-◌, ◌/◌, ◌<◌, ◌≤◌, ◌≡◌, refl, List, [], ◌∷◌, ◌++◌, length, take, drop, get_or, set, map}
 use Rattle.std.proofs.Common.{sym, ap, ap₂, ◌∙◌, append-nil, append_assoc, arith, length-append, length-drop, drop_of_length-le, length-take, take-append-drop, take_all}
 use Rattle.std.proofs.Math.Seq.{take-append_seam, drop-append_seam}
 use Rattle.std.proofs.lemmas.List.{drop-append-le}
+use Rattle.std.specs.Simd.{first_chunks}
+use borrow.Rule.Slice.PartMut.{put_mid}
 use Rattle.base.specs.Lists.{over, cut_at}
 use Rattle.base.specs.Laws.Cut.{length_cut}
 use Rattle.words.specs.Rows.{shut}
 use Rattle.request_rows.specs.declared.Phase.{Phase}
-use Rattle.request_rows.specs.Rows.{Row, row, no_row, rows_of, rest_of, words_of, flat, phase_word, in_phase}
+use Rattle.request_rows.specs.Rows.{Row, row, no_row, row_of, rows_of, rest_of, words_of, flat, phase_word, in_phase}
 
 -- ---- the two views
 
@@ -47,6 +49,16 @@ length_rows (a ∷ b ∷ []) = refl
 length_rows (a ∷ b ∷ c ∷ []) = refl
 length_rows (a ∷ b ∷ c ∷ d ∷ l) = let e = length_rows l in omega arith
 
+-- chunk by chunk
+pub chunks_rows : (l : List ℕ) → map row_of (first_chunks 4 (length l / 4) l) ≡ rows_of l
+chunks_rows [] = refl
+chunks_rows (a ∷ []) = refl
+chunks_rows (a ∷ b ∷ []) = refl
+chunks_rows (a ∷ b ∷ c ∷ []) = refl
+chunks_rows (a ∷ b ∷ c ∷ d ∷ l) =
+    let n : length (a ∷ b ∷ c ∷ d ∷ l) / 4 ≡ suc (length l / 4) = omega arith in
+    ap (λ (k : ℕ). map row_of (first_chunks 4 k (a ∷ b ∷ c ∷ d ∷ l))) n ∙ ap (λ (r : List Row). row a b c d ∷ r) (chunks_rows l)
+
 pub length_words : (rs : List Row) → length (words_of rs) ≡ length rs * 4
 length_words [] = refl
 length_words (q ∷ rs) = let e = length_words rs in omega arith
@@ -80,6 +92,11 @@ module _ (t : List ℕ) where
   set_words (p ∷ rs) zero q k = refl
   set_words (p ∷ rs) (suc h) q k = rw (four_on h 1, four_on h 2, four_on h 3, four h) (ap (λ (r : List ℕ). p.name ∷ p.who ∷ p.phase ∷ p.rest ∷ r) (set_words rs h q (omega arith)))
 
+  pub put_words : (rs : List Row) (h : ℕ) (q : Row) → h < length rs → put_mid (h * 4) 4 (flat rs t) (words_of (q ∷ [])) ≡ flat (set rs h q) t
+  put_words [] h q k = absurd (omega arith)
+  put_words (p ∷ rs) zero q k = refl
+  put_words (p ∷ rs) (suc h) q k = rw (four h) (ap (λ (r : List ℕ). p.name ∷ p.who ∷ p.phase ∷ p.rest ∷ r) (put_words rs h q (omega arith)))
+
   pub set_phase : (p : Phase) (rs : List Row) (h : ℕ) → h < length rs → set (flat rs t) (h * 4 + 2) (phase_word p) ≡ flat (set rs h (in_phase p (get_or rs h no_row))) t
   set_phase p [] h k = absurd (omega arith)
   set_phase p (q ∷ rs) zero k = refl
@@ -108,6 +125,9 @@ module _ (l : List ℕ) (h : ℕ) (k : h * 4 + 4 ≤ length l) where
 
   pub row_put : (q : Row) → set (set (set (set l (h * 4) q.name) (h * 4 + 1) q.who) (h * 4 + 2) q.phase) (h * 4 + 3) q.rest ≡ flat (set (rows_of l) h q) (rest_of l)
   row_put q = rw (rows_flat l) at (set_words (rest_of l) (rows_of l) h q within)
+
+  pub chunk_put : (q : Row) → put_mid (h * 4) 4 l (words_of (q ∷ [])) ≡ flat (set (rows_of l) h q) (rest_of l)
+  chunk_put q = rw (rows_flat l) at (put_words (rest_of l) (rows_of l) h q within)
 
   pub phase_put : (p : Phase) → set l (h * 4 + 2) (phase_word p) ≡ flat (set (rows_of l) h (in_phase p (get_or (rows_of l) h no_row))) (rest_of l)
   phase_put p = rw (rows_flat l) at (set_phase (rest_of l) p (rows_of l) h within)

@@ -5,7 +5,7 @@ use Rattle.request_sound.proofs.sound.Goals as goal
 
 pub returns : goal.returns
 returns c =
-    let a = c.args in record {
-      exact = whole _ _ a.requests.now a.area.now (bytes_told a.area.now c.type_inv.area) c.type_inv.requests _ _ _ _ _ _ _ c.least-slots.ensures.exact c.every.ensures
-          c.sound-a.ensures.exact c.sound-b.ensures.exact c.headed-c.ensures c.rows_sound-d.ensures c.all_unique.ensures;
+    let a = c.args in
+    record {
+      exact = whole _ _ a.requests.now a.area.now (bytes_told a.area.now c.type_inv.area) c.type_inv.requests _ _ c.min-slots.ensures c.parts_sound.ensures;
     }

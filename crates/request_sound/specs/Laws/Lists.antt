@@ -1,14 +1,25 @@
 -- Lists by a test that always passes, by two tests, by tests that agree where a third passes; and what the type of a slice of words says.
 -- Assumes nothing.
-use Rattle.std.specs.Prelude.{◌≡◌, ℕ, suc, ◌^◌, Bool, true, ◌&&◌, List, [], ◌∷◌, nat_lt, slice_index, refl}
+use Rattle.std.specs.Prelude.{◌≡◌, ℕ, suc, ◌^◌, Bool, true, ◌&&◌, List, [], ◌∷◌, Some, map, nat_lt, slice_index, refl}
+use Rattle.std.specs.Bool.{then_some}
+use Rattle.std.specs.List.{filter_map}
 use Rattle.std.proofs.Common.{ap, Fits, lt-ltb}
 use Rattle.std.specs.Int.{w64}
 use Rattle.base.specs.Lists.{keep, all}
-use Rattle.base.specs.Laws.Tests.{and_l, and_r, and_i}
+use Rattle.base.specs.Laws.Tests.{by_test, and_l, and_r, and_i}
 
 pub keep_every : {A : Type 0} (l : List A) → keep (λ x. true) l ≡ l
 keep_every [] = refl
 keep_every (x ∷ l) = ap (λ r. x ∷ r) (keep_every l)
+
+-- what a list gives by something that each has, and by what those have that pass a test
+pub filter_every : {A B : Type 0} (f : A → B) (l : List A) → map f l ≡ filter_map (λ x. Some (f x)) l
+filter_every f [] = refl
+filter_every f (x ∷ l) = ap (λ r. f x ∷ r) (filter_every f l)
+
+pub filter_kept : {A B : Type 0} (p : A → Bool) (f : A → B) (l : List A) → map f (keep p l) ≡ filter_map (λ x. then_some (p x) (f x)) l
+filter_kept p f [] = refl
+filter_kept p f (x ∷ l) = by_test (p x) (λ t. rw t (ap (λ r. f x ∷ r) (filter_kept p f l))) (λ t. rw t (filter_kept p f l))
 
 pub all_both : {A : Type 0} (p q : A → Bool) (l : List A) → all p l ≡ true → all q l ≡ true → all (λ x. p x && q x) l ≡ true
 all_both p q [] h g = refl

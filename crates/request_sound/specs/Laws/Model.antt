@@ -13,14 +13,15 @@ use Rattle.base.specs.Laws.Maps.{all_map, keep_map, map-map}
 use Rattle.model.specs.Interval as model
 use Rattle.model.proofs.Laws.SoundInterval.{NamesSound}
 use Rattle.names.specs.Names.{Names, names_in, sound_names}
-use Rattle.request_rows.specs.Rows.{Row, phase_of, active, terminal_of, slot_of}
+use Rattle.request_rows.specs.Rows.{Row, phase_of, active, program_of, terminal_of, slot_of}
 use Rattle.request_rows.specs.Table.{register_of, live, slots_in, spaces}
 use Rattle.request_rows.specs.Stands.{Memory, limits_of, request_at, interval_at}
 use Rattle.request_rows.specs.Laws.Ties.{short, inside, Laid}
 use Rattle.request_rows.specs.Laws.Standing.{active_at, live_few}
 use Rattle.request_rows.specs.Laws.Slots.{once_below}
-use Rattle.request_sound.specs.Sound.{sound_in, key_of, column}
-use Rattle.request_sound.specs.Laws.Lists.{keep_every, all_both, all_agree}
+use Rattle.request_sound.specs.declared.columns.Column.TheVariants.{Name, Slot, Program, Terminal}
+use Rattle.request_sound.specs.Sound.{sound_in, column}
+use Rattle.request_sound.specs.Laws.Lists.{filter_every, filter_kept, all_both, all_agree}
 use Rattle.request_sound.specs.Laws.Row.{word_name, ruled, row_is}
 
 -- ---- names
@@ -42,31 +43,33 @@ module _ (v : Names) where
 
 -- ---- columns
 
+-- it is active and has a terminal
+abbrev holds : Row → Bool
+holds q = active q && not (terminal_of q == blank 4)
+
 module _ (c r : ℕ) (area : List ℕ) (l : List Row) where
   abbrev stands : Row → model.Request
   stands = request_at c r area
 
-  pub names_column : map (λ (q : model.Request). q.name) (map (request_at c r area) l) ≡ column 0 l
-  unfolding key_of
-  names_column = map-map (λ (q : model.Request). q.name) stands l ∙ ap (map (λ (q : Row). q.name)) (sym (keep_every l))
+  pub names_column : map (λ (q : model.Request). q.name) (map (request_at c r area) l) ≡ column Name l
+  names_column = map-map (λ (q : model.Request). q.name) stands l ∙ filter_every (λ (q : Row). q.name) l
 
-  pub running_column : model.running (map (request_at c r area) l) ≡ column 2 l
-  unfolding key_of
+  pub running_column : model.running (map (request_at c r area) l) ≡ column Program l
   running_column =
       ap (map (λ (q : model.Request). q.program)) (keep_map stands active model.active (λ q. active_at c r (phase_of q.phase)) l)
       ∙ map-map (λ (q : model.Request). q.program) stands (keep active l)
+      ∙ filter_kept active program_of l
 
-  pub held_column : model.held (map (request_at c r area) l) ≡ column 3 l
-  unfolding key_of
+  pub held_column : model.held (map (request_at c r area) l) ≡ column Terminal l
   held_column =
       ap (map (λ (q : model.Request). q.terminal))
-      (keep_map stands (λ q. active q && not (terminal_of q == blank 4)) (λ q. model.active q && not (q.terminal == blank 4))
+      (keep_map stands holds (λ q. model.active q && not (q.terminal == blank 4))
       (λ q. ap (λ (b : Bool). b && not (terminal_of q == blank 4)) (active_at c r (phase_of q.phase))) l)
-      ∙ map-map (λ (q : model.Request). q.terminal) stands (keep (λ (q : Row). active q && not (terminal_of q == blank 4)) l)
+      ∙ map-map (λ (q : model.Request). q.terminal) stands (keep holds l)
+      ∙ filter_kept holds terminal_of l
 
-pub slots_column : (l : List Row) → map slot_of l ≡ column 1 l
-unfolding key_of
-slots_column l = ap (map slot_of) (sym (keep_every l))
+pub slots_column : (l : List Row) → map slot_of l ≡ column Slot l
+slots_column l = filter_every slot_of l
 
 -- ---- rows
 
@@ -105,7 +108,7 @@ module _ (m : Memory) where
       passed : all asked rows ≡ true
       passed = sym rows_asked ∙ h
 
-      pub rows_laid : once (column 1 (live m.requests)) ≡ true → Laid m.area (live m.requests)
+      pub rows_laid : once (column Slot (live m.requests)) ≡ true → Laid m.area (live m.requests)
       rows_laid o = record {
         shorts = all_imp asked short (λ q e. and_l (short q) _ (and_l (short q && inside m.area q) _ e)) rows passed;
         insides = all_imp asked (inside m.area) (λ q e. and_r (short q) _ (and_l (short q && inside m.area q) _ e)) rows passed;

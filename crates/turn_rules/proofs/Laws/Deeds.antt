@@ -29,7 +29,7 @@ use Rattle.request_rows.specs.Laws.Start.{start_follows}
 use Rattle.request_rows.specs.Laws.Cancel.{cancel_follows}
 use Rattle.request_rows.specs.Laws.Retrieve.{retrieve_follows}
 use Rattle.request_rows.specs.Laws.Remove.{remove_at_follows}
-use Rattle.request_rows.specs.declared.Task.TheVariants.{At}
+use Rattle.std.specs.Prelude.{Some}
 use Rattle.queue_rows.specs.Table.{Queues, Store, slots_in}
 use Rattle.queue_rows.specs.Model.{queues_of}
 use Rattle.queue_rows.specs.Sound.{SoundS}
@@ -70,7 +70,7 @@ deed_of_lem part.Finish k i t r = refl
 deed_of_lem part.Queues k i t r = refl
 deed_of_lem part.Settings k i t r = refl
 
-module _ (c : ℕ) (t : Tables) (y : Typed t) (rules : Rules c t) (r : List ℕ) (b : is_bytes r ≡ true) (i : ℕ) (from : sender_in t.requests (issuer r) ≡ At i) where
+module _ (c : ℕ) (t : Tables) (y : Typed t) (rules : Rules c t) (r : List ℕ) (b : is_bytes r ≡ true) (i : ℕ) (from : sender_in t.requests (issuer r) ≡ Some i) where
   abbrev m : Memory
   m = interval_in t
 
@@ -87,7 +87,7 @@ module _ (c : ℕ) (t : Tables) (y : Typed t) (rules : Rules c t) (r : List ℕ)
   g = rules.fine.interval
 
   -- an issuer that is no system stands in row i, and has room for settings
-  row_of_lem : eqb (issuer r) (blank 8) ≡ false → task_in t.requests (issuer r) ≡ At i
+  row_of_lem : eqb (issuer r) (blank 8) ≡ false → task_in t.requests (issuer r) ≡ Some i
   row_of_lem e = sym (task_sender t.requests (issuer r) e) ∙ from
 
   seat : eqb (issuer r) (blank 8) ≡ false → room t.settings (issuer r) ≡ true

@@ -10,8 +10,8 @@ use Rattle.model.specs.Commands.{issuer, formed, step}
 use Rattle.model.specs.State.{State}
 use Rattle.model.specs.Demands.{Stepped}
 use Rattle.request_rows.specs.Stands.{Means, interval_at}
-use Rattle.request_rows.specs.declared.Task.{Task}
-use Rattle.request_rows.specs.declared.Task.TheVariants.{At, Nobody}
+use Rattle.std.specs.Prelude.{Option}
+use Rattle.std.specs.Prelude.{Some, None}
 use Rattle.turn_rules.specs.Tables.{Tables, interval_in}
 use Rattle.turn_rules.specs.Turn.{sender_in, turn_of}
 use Rattle.turn_rules.specs.Standing.{state_at, StandsFor, sound_t, step_of, Sizes, limits, Fit}
@@ -29,43 +29,43 @@ module _ {z : Sizes} (h : Held z) (r : List ℕ) where
   abbrev p : Bool
   p = sound_t h.tables
 
-  abbrev from : Task
+  abbrev from : Option ℕ
   from = sender_in h.tables.requests (issuer r)
 
-  by_is : (bytes : Bool) (b : is_bytes r ≡ bytes) (soundly form : Bool) (x : Task) → bytes ≡ true → p ≡ soundly → formed r ≡ form → from ≡ x
+  by_is : (bytes : Bool) (b : is_bytes r ≡ bytes) (soundly form : Bool) (x : Option ℕ) → bytes ≡ true → p ≡ soundly → formed r ≡ form → from ≡ x
       → bare (goes_by h r bytes b soundly form x) ≡ step_of h.tables r
   unfolding step_of turn_of
   by_is false b soundly form x y s e a = no y
   by_is true b false form x y s e a = rw s
   by_is true b true false x y s e a = rw (s, e)
-  by_is true b true true Nobody y s e a = rw (s, e, a)
-  by_is true b true true (At i) y s e a = rw s
+  by_is true b true true None y s e a = rw (s, e, a)
+  by_is true b true true (Some i) y s e a = rw s
 
   pub step_is : is_bytes r ≡ true → bare (step_held h r) ≡ step_of h.tables r
   unfolding step_held
   step_is y = by_is (is_bytes r) refl p (formed r) from y refl refl refl
 
   -- where 32, 33 and 34 arise it is the tables themselves that come back
-  pub by_unsound : (bytes : Bool) (b : is_bytes r ≡ bytes) (soundly form : Bool) (x : Task) → bytes ≡ true → soundly ≡ false
+  pub by_unsound : (bytes : Bool) (b : is_bytes r ≡ bytes) (soundly form : Bool) (x : Option ℕ) → bytes ≡ true → soundly ≡ false
       → goes_by h r bytes b soundly form x ≡ stays h r 32
   by_unsound false b soundly form x y s = no y
   by_unsound true b true form x y s = no (sym s)
   by_unsound true b false form x y s = refl
 
-  pub by_malformed : (bytes : Bool) (b : is_bytes r ≡ bytes) (soundly form : Bool) (x : Task) → bytes ≡ true → soundly ≡ true → form ≡ false
+  pub by_malformed : (bytes : Bool) (b : is_bytes r ≡ bytes) (soundly form : Bool) (x : Option ℕ) → bytes ≡ true → soundly ≡ true → form ≡ false
       → goes_by h r bytes b soundly form x ≡ stays h r 33
   by_malformed false b soundly form x y s e = no y
   by_malformed true b false form x y s e = no s
   by_malformed true b true true x y s e = no (sym e)
   by_malformed true b true false x y s e = refl
 
-  pub by_stranger : (bytes : Bool) (b : is_bytes r ≡ bytes) (soundly form : Bool) (x : Task) → bytes ≡ true → soundly ≡ true → form ≡ true
-      → ((i : ℕ) → x ≡ At i → ⊥) → goes_by h r bytes b soundly form x ≡ stays h r 34
+  pub by_stranger : (bytes : Bool) (b : is_bytes r ≡ bytes) (soundly form : Bool) (x : Option ℕ) → bytes ≡ true → soundly ≡ true → form ≡ true
+      → ((i : ℕ) → x ≡ Some i → ⊥) → goes_by h r bytes b soundly form x ≡ stays h r 34
   by_stranger false b soundly form x y s e a = no y
   by_stranger true b false form x y s e a = no s
   by_stranger true b true false x y s e a = no e
-  by_stranger true b true true Nobody y s e a = refl
-  by_stranger true b true true (At i) y s e a = absurd (a i refl)
+  by_stranger true b true true None y s e a = refl
+  by_stranger true b true true (Some i) y s e a = absurd (a i refl)
 
 -- ---- from sound tables
 

@@ -20,8 +20,8 @@ use Rattle.request_rows.specs.Table.{register_of}
 use Rattle.request_rows.specs.Remove.{remove_in}
 use Rattle.request_rows.specs.Stands.{Means}
 use Rattle.request_rows.specs.Laws.Remove.{remove_follows}
-use Rattle.request_rows.specs.declared.Task.{Task}
-use Rattle.request_rows.specs.declared.Task.TheVariants.{At, Nobody}
+use Rattle.std.specs.Prelude.{Option}
+use Rattle.std.specs.Prelude.{Some, None}
 use Rattle.settings.specs.Table.{setting_of, tasks_of}
 use Rattle.settings.specs.Decide.{decide_in}
 use Rattle.settings.specs.Laws.Decide.{decide_stands}
@@ -93,10 +93,10 @@ module _ (c : ℕ) (t : Tables) (y : Typed t) (rules : Rules c t) (r : List ℕ)
   stays : (k : ℕ) → Goes (refused_in t k) (refused s k)
   stays k = record { clock = c; answer = refl; stands = refl; fine = rules.fine }
 
-  heard_goes : formed r ≡ true → (x : Task) → sender_in t.requests (issuer r) ≡ x
+  heard_goes : formed r ≡ true → (x : Option ℕ) → sender_in t.requests (issuer r) ≡ x
       → Goes (heard_as (row_of (command r)).who (part_of (command r)) (issuer r) t r x) (pick (allowed s r) (settle s (issuer r) (obeyed (limits_of t) s r)) (refused s 34))
-  heard_goes e Nobody h = rw (nobody_allowed c t r h) (stays 34)
-  heard_goes e (At i) h =
+  heard_goes e None h = rw (nobody_allowed c t r h) (stays 34)
+  heard_goes e (Some i) h =
       rw (at_allowed c t r i h)
       (settle_goes (obeyed_in (row_of (command r)).who (part_of (command r)) (issuer r) i t r) (issuer r) s (obeyed (limits_of t) s r) (obeys_model c t y rules r b i h e)
       (λ z. named_tasks s r _ _ (heard_kept (limits_of t) s r z)))

@@ -13,8 +13,8 @@ use Rattle.records.specs.declared.Part.TheVariants as part
 use Rattle.request_rows.specs.Stands.{Memory}
 use Rattle.request_rows.specs.Typed as requests
 use Rattle.request_rows.specs.Laws.Kept as requests-kept
-use Rattle.request_rows.specs.declared.Task.{Task}
-use Rattle.request_rows.specs.declared.Task.TheVariants.{At, Nobody}
+use Rattle.std.specs.Prelude.{Option}
+use Rattle.std.specs.Prelude.{Some, None}
 use Rattle.queue_rows.specs.Table.{Store}
 use Rattle.queue_rows.specs.Laws.Kept as queues
 use Rattle.settings.specs.Table.{Tasks}
@@ -99,9 +99,9 @@ module _ (t : Tables) (y : Typed t) where
 -- ---- one record
 
 module _ (t : Tables) (y : Typed t) (r : List ℕ) (b : is_bytes r ≡ true) where
-  heard_kept : (w : Who) (p : Part) (x : Task) → Keeps t (heard_as w p (issuer r) t r x).tables
-  heard_kept w p Nobody = keeps_itself t y
-  heard_kept w p (At i) =
+  heard_kept : (w : Who) (p : Part) (x : Option ℕ) → Keeps t (heard_as w p (issuer r) t r x).tables
+  heard_kept w p None = keeps_itself t y
+  heard_kept w p (Some i) =
       let k = obeyed_kept t y r b w p (issuer r) i (num_bound 1 8 r b) in
       keeps_then t (obeyed_in w p (issuer r) i t r).state _ k (settled_kept _ k.typed (issuer r) (obeyed_in w p (issuer r) i t r).condition)
 

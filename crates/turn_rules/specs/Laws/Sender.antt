@@ -10,7 +10,7 @@ use Rattle.request_rows.specs.Table.{Requests}
 use Rattle.request_rows.specs.Active.{task_in}
 use Rattle.request_rows.specs.Stands.{interval_at}
 use Rattle.request_rows.specs.Laws.Active.{nobody_stands}
-use Rattle.request_rows.specs.declared.Task.TheVariants.{At, Nobody}
+use Rattle.std.specs.Prelude.{Some, None}
 use Rattle.turn_rules.specs.Tables.{Tables, interval_in}
 use Rattle.turn_rules.specs.Turn.{sender_in}
 use Rattle.turn_rules.specs.Standing.{state_at}
@@ -21,25 +21,25 @@ unfolding sender_in
 task_sender w k e = rw e
 
 module _ (c : ℕ) (t : Tables) where
-  pub task_active : (n i : ℕ) → task_in t.requests n ≡ At i → active_task (interval_at c (interval_in t)) n ≡ true
+  pub task_active : (n i : ℕ) → task_in t.requests n ≡ Some i → active_task (interval_at c (interval_in t)) n ≡ true
   task_active n i e =
       by_test (active_task (interval_at c (interval_in t)) n) (λ h. h)
       (λ h.
-      let none : task_in t.requests n ≡ Nobody = (nobody_stands c (interval_in t) n).1 h in
+      let none : task_in t.requests n ≡ None = (nobody_stands c (interval_in t) n).1 h in
       absurd (let z : ◌≡◌ {A = ℕ} 0 1 = cc in omega arith))
 
   module _ (r : List ℕ) where
-    pub at_allowed : (i : ℕ) → sender_in t.requests (issuer r) ≡ At i → allowed (state_at c t) r ≡ true
+    pub at_allowed : (i : ℕ) → sender_in t.requests (issuer r) ≡ Some i → allowed (state_at c t) r ≡ true
     unfolding allowed
     at_allowed i e =
         by_test (eqb (issuer r) (blank 8)) (λ h. rw h)
         (λ h. rw h (task_active (issuer r) i (sym (task_sender t.requests (issuer r) h) ∙ e)))
 
-    pub nobody_allowed : sender_in t.requests (issuer r) ≡ Nobody → allowed (state_at c t) r ≡ false
+    pub nobody_allowed : sender_in t.requests (issuer r) ≡ None → allowed (state_at c t) r ≡ false
     unfolding allowed sender_in
     nobody_allowed e =
         by_test (eqb (issuer r) (blank 8))
         (λ h.
-        let there : At 0 ≡ Nobody = rw h at e in
+        let there : Some 0 ≡ None = rw h at e in
         absurd (let z : ◌≡◌ {A = ℕ} 0 1 = cc in omega arith))
         (λ h. rw h ((nobody_stands c (interval_in t) (issuer r)).0 (rw h at e)))

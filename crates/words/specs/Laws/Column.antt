@@ -1,9 +1,9 @@
 -- The column of names: of whole rows, of the first rows and of those behind them, after a store, and of what a scan has left. Assumes nothing.
-use Rattle.std.specs.Prelude.{ℕ, zero, suc, ◌+◌, ◌*◌, ◌<◌, ◌≤◌, min, ◌≡◌, refl, Bool, true, false, List, [], ◌∷◌, ◌++◌, leb, length, take, drop, get_or, set}
-use Rattle.std.proofs.Common.{sym, ap, ◌∙◌, arith, suc-mul, drop_of_length-le, drop-cons, drop-drop, leb-true, leb-false}
-use Rattle.std.proofs.Math.Seq.{take-nil, drop-nil}
+use Rattle.std.specs.Prelude.{ℕ, zero, suc, ◌+◌, ◌*◌, ◌<◌, ◌≤◌, min, ◌≡◌, refl, Bool, true, false, List, [], ◌∷◌, ◌++◌, length, take, drop, get_or, set, Some, None, position}
+use Rattle.std.proofs.Common.{sym, ap, ◌∙◌, arith, suc-mul, length-append, drop_of_length-le, lt-ltb, le-ltb}
+use Rattle.std.proofs.Math.Seq.{take-nil, drop-nil, drop-append_seam}
 use Rattle.base.specs.Lists.{first_at}
-use Rattle.base.specs.Laws.Tests.{by_test}
+use Rattle.base.specs.Laws.Library.{position_of}
 use Rattle.words.specs.Rows.{column_from, column}
 
 module _ (gap : ℕ) where
@@ -116,55 +116,55 @@ module _ (gap : ℕ) where
       column_set_other zero v h b = absurd (omega arith)
       column_set_other (suc r) v h b = set_behind 0 n r l (m + suc r) v (omega arith) (omega arith)
 
--- ---- a scan, a row a turn; a gap past the end counts as far as the end
+-- ---- a scan, a row a turn; the last row may be short
 
 behind : (gap k : ℕ) (l : List ℕ) → column_from gap k l ≡ column gap (drop k l)
 behind gap zero l = refl
 behind gap (suc k) [] = refl
 behind gap (suc k) (x ∷ l) = behind gap k l
 
-skipped : (gap : ℕ) (l : List ℕ) (step at : ℕ) → step ≡ min gap (length l) + 1 → drop gap (drop (suc at) l) ≡ drop (at + step) l
-skipped gap l step at e =
-    by_test (leb gap (length l))
-    (λ t.
-    let f : suc at + gap ≡ at + step = omega (arith, leb-true gap (length l) t) in
-    drop-drop gap (suc at) l ∙ ap (λ (k : ℕ). drop k l) f)
-    (λ t.
-    let h : length l < gap = leb-false gap (length l) t in
-    drop-drop gap (suc at) l ∙ drop_of_length-le l {i = suc at + gap} (omega arith) ∙ sym (drop_of_length-le l {i = at + step} (omega arith)))
+-- a row of what is left: as long as rows are, or all of it
+module _ (gap : ℕ) where
+  abbrev pub is_row : List ℕ → List ℕ → Type 0
+  is_row row rest = (0 < length row) × (length row ≡ min (suc gap) (length (row ++ rest)))
 
--- no name of the i rows before place `at` passes
-pub record Scanned (gap : ℕ) (l : List ℕ) (p : ℕ → Bool) (step i at : ℕ) : Type 0 where
-  pub wide : step ≡ min gap (length l) + 1
-  pub here : i ≤ at
-  pub first : first_at p (column gap l) ≡ i + first_at p (column gap (drop at l))
+  behind_row : (row rest : List ℕ) → is_row row rest → drop (suc gap) (row ++ rest) ≡ rest
+  behind_row row [] h = drop_of_length-le (row ++ []) {i = suc gap} (omega (arith, length-append row []))
+  behind_row row (y ∷ rest) h =
+      let e : suc gap ≡ length row = omega (arith, length-append row (y ∷ rest)) in
+      ap (λ (k : ℕ). drop k (row ++ y ∷ rest)) e ∙ drop-append_seam row (y ∷ rest)
 
-pub scan_start : (gap : ℕ) (l : List ℕ) (p : ℕ → Bool) (step : ℕ) → step ≡ min gap (length l) + 1 → Scanned gap l p step 0 0
-scan_start gap l p step e = record { wide = e; here = omega arith; first = omega arith }
+  next : (row rest : List ℕ) → is_row row rest → column gap (row ++ rest) ≡ get_or row 0 0 ∷ column gap rest
+  next [] rest h = absurd (omega arith)
+  next (x ∷ row) rest h = ap (λ (c : List ℕ). x ∷ c) (behind gap gap (row ++ rest) ∙ ap (column gap) (behind_row (x ∷ row) rest h))
 
-module _ {gap : ℕ} {l : List ℕ} {p : ℕ → Bool} {step i at : ℕ} (v : Scanned gap l p step i at) where
-  pub scan_end : length l ≤ at → i ≡ first_at p (column gap l)
+-- no name of the i rows before what is left passes
+pub record Scanned (gap : ℕ) (l : List ℕ) (p : ℕ → Bool) (i : ℕ) (left : List ℕ) : Type 0 where
+  pub first : first_at p (column gap l) ≡ i + first_at p (column gap left)
+  pub rows : length (column gap l) ≡ i + length (column gap left)
+
+pub scan_start : (gap : ℕ) (l : List ℕ) (p : ℕ → Bool) → Scanned gap l p 0 l
+scan_start gap l p = record { first = omega arith; rows = omega arith }
+
+module _ {gap : ℕ} {l : List ℕ} {p : ℕ → Bool} {i : ℕ} {left : List ℕ} (v : Scanned gap l p i left) where
+  pub scan_end : length left ≡ 0 → None ≡ position p (column gap l)
   scan_end h =
-      let z : first_at p (column gap (drop at l)) ≡ 0 = rw (drop_of_length-le l {i = at} h) in
-      let f = v.first in
-      omega arith
+      let e : left ≡ [] = drop_of_length-le left {i = 0} (omega arith) in
+      let f : first_at p (column gap l) ≡ i = rw e at v.first ∙ omega arith in
+      let r : length (column gap l) ≡ i = rw e at v.rows ∙ omega arith in
+      sym (position_of p (column gap l) ∙ (rw (f, r, le-ltb i i (omega arith))))
 
-  module _ (h : at < length l) where
-    next : column gap (drop at l) ≡ get_or l at 0 ∷ column gap (drop (at + step) l)
-    next =
-        ap (column gap) (drop-cons l at 0 h)
-        ∙ ap (λ (c : List ℕ). get_or l at 0 ∷ c) (behind gap gap (drop (suc at) l) ∙ ap (column gap) (skipped gap l step at v.wide))
+  module _ (row rest : List ℕ) (e : left ≡ row ++ rest) (h : is_row gap row rest) where
+    taken : column gap left ≡ get_or row 0 0 ∷ column gap rest
+    taken = ap (column gap) e ∙ next gap row rest h
 
-    pub scan_hit : p (get_or l at 0) ≡ true → i ≡ first_at p (column gap l)
+    pub scan_hit : p (get_or row 0 0) ≡ true → Some i ≡ position p (column gap l)
     scan_hit t =
-        let z : first_at p (column gap (drop at l)) ≡ 0 = rw (next, t) in
-        let f = v.first in
-        omega arith
+        let f : first_at p (column gap l) ≡ i = v.first ∙ (rw (taken, t) (omega arith)) in
+        let r : i < length (column gap l) = omega (arith, v.rows, ap length taken) in
+        sym (position_of p (column gap l) ∙ (rw (f, lt-ltb i (length (column gap l)) r)))
 
-    pub scan_on : p (get_or l at 0) ≡ false → Scanned gap l p step (i + 1) (at + step)
-    scan_on t =
-        let z : first_at p (column gap (drop at l)) ≡ suc (first_at p (column gap (drop (at + step) l))) = rw (next, t) in
-        let f = v.first in
-        let w = v.wide in
-        let b = v.here in
-        record { wide = w; here = omega arith; first = omega arith }
+    pub scan_on : (j : ℕ) → j ≡ i + 1 → p (get_or row 0 0) ≡ false → Scanned gap l p j rest
+    scan_on j k t =
+        let f : first_at p (column gap left) ≡ suc (first_at p (column gap rest)) = rw (taken, t) in
+        record { first = omega (arith, v.first); rows = omega (arith, v.rows, ap length taken) }

@@ -1,13 +1,13 @@
 -- What is said and what an outcome holds: a condition by its number, an outcome by what was said, and the other way. Assumes nothing.
-use Rattle.std.specs.Prelude.{ℕ, ◌≤◌, ◌≡◌, refl, List, [], ◌∷◌, length, take, get_or}
-use Rattle.std.proofs.Common.{sym, ap, ap₂, ◌∙◌, arith}
+use Rattle.std.specs.Prelude.{ℕ, ◌≡◌, refl, List, [], ◌∷◌, length, take, get_or}
+use Rattle.std.proofs.Common.{sym, ap, ap₂, ◌∙◌}
 use Rattle.std.proofs.Math.Seq.{take-nil}
 use Rattle.base.specs.Lists.{over}
 use Rattle.model.specs.Plans.{Outcome}
 use Rattle.words.specs.declared.said.Condition.{Condition}
 use Rattle.words.specs.declared.said.Condition.TheVariants.{Normal, NoSpace, UnknownQueue, NoSuchItem, WrongLength, UnknownProgram, UnknownTerminal, NotUnique, NotFound, EndOfData, InvalidRequest}
 use Rattle.words.specs.declared.said.Said.{Said}
-use Rattle.words.specs.Said.{code_of, saying, Gave, gave, handed, told}
+use Rattle.words.specs.Said.{code_of, plainly, Gave, gave, handed, told}
 
 -- ---- conditions
 
@@ -58,9 +58,7 @@ module _ {S : Type 0} (r : Said) (s : S) (o : Outcome S) where
   pub gave_none : told r [] s ≡ o → r.len ≡ 0 → (b : List ℕ) → gave r s b ≡ handed o b
   gave_none e n b = gave_told [] b b e n (sym (ap (λ (x : List ℕ). over x b) (take-nil (length b))))
 
--- both clauses of a command that gives no bytes, from what `plain` gave
-pub said_plain : {S : Type 0} (r : Said) (c : Condition) (n : ℕ) (s : S) (o : Outcome S) → r ≡ saying c n 0 → told (saying c n 0) [] s ≡ o
-    → ((b : List ℕ) → gave r s b ≡ handed o b) × (r.len ≤ 64)
-said_plain r c n s o e f =
-    let k = ap (λ (x : Said). x.len) e in
-    (gave_none r s o (ap (λ (x : Said). told x [] s) e ∙ f) k, omega arith)
+-- a command that gives no bytes, from what `Said.plain` gave
+pub said_plain : {S : Type 0} (r : Said) (c : Condition) (n : ℕ) (s : S) (o : Outcome S) → r ≡ plainly c n → told (plainly c n) [] s ≡ o
+    → (b : List ℕ) → gave r s b ≡ handed o b
+said_plain r c n s o e f = gave_none r s o (ap (λ (x : Said). told x [] s) e ∙ f) (ap (λ (x : Said). x.len) e)

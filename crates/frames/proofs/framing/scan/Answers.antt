@@ -3,17 +3,8 @@
 use mathlib.Core.Path.{sym, ◌∙◌}
 use native.Mathlib.Omega.{arith}
 use Rattle.frames.specs.Laws.Reading.{record_told}
-use Rattle.frames.proofs.Counted.{passed_none, passed_more, passed_end, passed_bad}
+use Rattle.frames.proofs.Counted.{passed_more, passed_end, passed_bad}
 use Rattle.frames.proofs.framing.scan.Goals as goal
-
-pub loop-next-init : goal.loop-next-init
-loop-next-init c = passed_none c.args.start c.args.list.now
-
-pub overflow_add-records : goal.overflow_add-records
-overflow_add-records c =
-    let t = (record_told _ _ _ _ (sym c.in-Record.is ∙ c.record_at.ensures.exact)).1 in
-    let f = c.loop-next.invariant.few in
-    omega arith
 
 pub loop-next-smaller : goal.loop-next-smaller
 loop-next-smaller c =

@@ -1,23 +1,21 @@
 -- `writing::write_answer` meets its contract: no room, or the ten bytes and the copy behind them (proofs/Puts.antt).
 -- Assumes nothing.
-use mathlib.Core.Path.{sym}
-use native.Mathlib.Omega.{arith}
-use Rattle.model.specs.Lists.{encoded}
-use Rattle.frames.specs.Writing.{answer_of}
-use Rattle.frames.specs.Laws.Encoded.{length_encoded, written_not}
-use Rattle.frames.proofs.Puts.{put_all}
+use mathlib.Core.Path.{ap, ◌∙◌}
+use lib.ListN.{take}
+use Rattle.frames.proofs.Puts.{none_put, all_put}
 use Rattle.frames.proofs.writing.write_answer.Goals as goal
 
 pub returns-then-out-n : goal.returns-then-out-n
-returns-then-out-n c = let a = c.args in
-    let n = c.carried-n.ensures.0 in
-    let e = answer_of a.condition a.action a.label a.number a.bytes.now a.len in
-    let k = length_encoded e in record { exact = sym (written_not (encoded e) a.out.now (omega arith)) }
+returns-then-out-n c =
+    let a = c.args in
+    let own = c.front-own.ensures.exact ∙ ap (take a.len) c.front.ensures.exact in
+    record { exact = none_put a.condition a.action a.label a.number a.bytes.now a.len _ a.out.now own c.if-out-n.true }
 
 pub returns : goal.returns
-returns c = let a = c.args in
-    let h = c.put_head in
-    let n = c.carried-n.ensures.0 in record {
-      exact = put_all a.condition a.action a.label a.number a.bytes.now a.len a.out.now h.new.out c.put_bytes.new.out
-          c.carried-n.result n (omega arith) h.ensures.exact c.put_bytes.ensures;
+returns c =
+    let a = c.args in
+    let own = c.front-own.ensures.exact ∙ ap (take a.len) c.front.ensures.exact in
+    record {
+      exact = all_put a.condition a.action a.label a.number a.bytes.now a.len _ _ a.out.now _ own c.copy_from_slice.ensures.after c.if-out-n.false
+          c.put_head.ensures.exact;
     }

@@ -1,11 +1,10 @@
--- `sound::sound` meets its contract. Assumes nothing.
-use Rattle.std.proofs.Common.{◌&&◌, ◌∙◌, ap₂}
+-- `sound::sound` meets its contract: the arrays are as long as their types say. Assumes nothing.
+use Rattle.std.proofs.Common.{◌≡◌, length, rules}
 use Rattle.interval.proofs.SoundLawsWhole.{whole}
 use Rattle.interval.proofs.sound.sound.Goals as goal
 
 pub returns : goal.returns
 returns c =
-    let columns =
-    c.both-d.ensures
-    ∙ ap₂ ◌&&◌ (c.both.ensures ∙ ap₂ ◌&&◌ c.unique.ensures c.unique-2.ensures) c.unique-3.ensures in
-    record { exact = whole c.args.t _ _ _ _ _ c.every.ensures c.names_sound-a.ensures c.names_sound-b.ensures c.rows_sound-c.ensures columns }
+    let sixteen : length c.args.t.programs ≡ 16 = search rules in
+    let eight : length c.args.t.terminals ≡ 8 = search rules in
+    record { exact = whole c.args.t sixteen eight c.all_sound.result c.all_sound.ensures }

@@ -1,39 +1,37 @@
 -- `run::run_records` meets its contract. The invariant: the answers of the records passed stand at the front of the buffer, and with
 -- those of the records left they are all answers (proofs/Running.antt). At each join what is held is what the monitor says of the record's
 -- lane, so that the record comes to `step_on`. Assumes nothing.
-use mathlib.Core.Path.{◌≡◌, sym, ap, ◌∙◌}
+use mathlib.Core.Path.{◌≡◌, sym, ap, ap₂, ◌∙◌}
+use mathlib.Core.Bool.{◌||◌}
 use mathlib.Core.List.{List}
 use Prim.Native.Nat.{ℕ, ◌-◌, ◌<◌, ◌^◌}
 use native.Mathlib.Omega.{arith}
-use lib.Dec.{ltb}
+use lib.Dec.{eqb}
 use lib.ListN.{length, take, drop}
 use borrow.Author.Rules.{rules}
-use Rattle.base.specs.Laws.Seeking.{seeks_start}
+use Rattle.base.specs.Bytes.{blank}
 use Rattle.base.specs.Laws.Told.{bytes_told}
 use Rattle.model.specs.Lists.{answered}
-use Rattle.interval.specs.Active.{task, active_in}
+use Rattle.interval.specs.Active.{active_in}
 use Rattle.interval.specs.Runs as interval
-use Rattle.interval.specs.declared.Requests.{Requests}
-use Rattle.interval.proofs.Seeks.{seeks_on}
 use Rattle.queues.specs.Runs as queues
+use Rattle.monitor.specs.Answers.{answering}
 use Rattle.monitor.specs.Requests.{asks, ask_of}
 use Rattle.monitor.specs.Store.{stores, store_ask}
-use Rattle.monitor.specs.Lanes.{laned}
+use Rattle.monitor.specs.Lanes.{Lane, laned}
 use Rattle.monitor.proofs.Arms.{last_arm, last_store_arm}
 use Rattle.monitor.proofs.Laws.Held.{Held, held, held_of, held_setting, held_turned, held_end, parts, decided, undecided, ended, went_on, held_lane, held_step}
 use Rattle.monitor.proofs.Laws.Held.{asked_of, asked_by, asked_yes, asked_ticks, asked_not, stored_of, stored_by, stored_yes, stored_not, made_of, made_by, made_yes, made_not}
 use Rattle.monitor.specs.Step.{allowed_in, step_on, lent, turned}
 use Rattle.monitor.specs.Table.{no_items, tables, store_of, fresh_parts}
 use Rattle.monitor.specs.declared.Parts.{Parts}
-use Rattle.monitor.specs.declared.lanes.Lane.{Lane}
 use Rattle.monitor.specs.declared.Tables.{Tables}
 use Rattle.monitor.specs.declared.settle.Turned.{Turned}
 use Rattle.frames.specs.Reading.{records_from}
 use Rattle.lists.specs.Run.{answers_on}
-use Rattle.lists.proofs.Laning.{sought_none, sought_some, system_may, task_may, fresh_same, fresh_typed, fresh_well}
+use Rattle.lists.proofs.Laning.{fresh_same, fresh_typed, fresh_well}
 use Rattle.lists.proofs.Running.{running_none, running_long, running_end, running_all, onward, running_moved, running_more}
 use Rattle.lists.proofs.run.run_records.Goals as goal
-use Rattle.lists.proofs.run.run_records.Goals.{then-issuer-ne-SYSTEM, else-issuer-ne-SYSTEM, else-loop-i-test, then-loop-i-test+then-is_task}
 use Rattle.lists.proofs.run.run_records.Goals.{then-for_requests+in-1, then-for_requests+in-2, then-for_requests+in-3, then-for_requests+in-4, then-for_requests+in-5, then-for_requests+in-6, then-for_requests+in-7, then-for_requests+in_default-command, else-for_requests}
 use Rattle.lists.proofs.run.run_records.Goals.{then-for_store+in-10, then-for_store+in-11, then-for_store+in-12, then-for_store+in-13, then-for_store+in_default-command-2, else-for_store}
 use Rattle.lists.proofs.run.run_records.Goals.{then-for_settings, else-for_settings, then-decides, else-decides, then-v, else-v}
@@ -57,20 +55,8 @@ module _ (c : goal.After-slice_known-in-Record-1) where
 
   -- ---- who may send it
 
-  may : c.if-issuer-ne-SYSTEM.may ≡ allowed_in t.parts r
-  may = elim c.if-issuer-ne-SYSTEM.branch [
-    | then-issuer-ne-SYSTEM w ↦
-        let q : Requests = t.parts.requests in
-        let found : ltb w.loop-i.i w.least-m.result ≡ active_in q n =
-        elim w.loop-i-test.branch [
-          | else-loop-i-test z ↦ sought_none q n w.least-m.result w.loop-i.i w.loop-i.invariant z.loop-i-test.false
-          | then-loop-i-test+then-is_task z ↦
-              sought_some q n w.least-m.result w.loop-i.i w.loop-i.invariant z.loop-i-test.true (sym z.is_task.ensures.exact ∙ z.if-is_task.true)
-        ]
-        in
-        task_may t.parts r n c.issuer-issuer.ensures.exact w.if-issuer-ne-SYSTEM.true (w.may-is ∙ found)
-    | else-issuer-ne-SYSTEM w ↦ system_may t.parts r n c.issuer-issuer.ensures.exact w.if-issuer-ne-SYSTEM.false w.may-is
-  ]
+  may : c.may_send-may.result ≡ allowed_in t.parts r
+  may = c.may_send-may.ensures ∙ ap (λ (i : ℕ). eqb i (blank 8) || active_in t.parts.requests i) c.issuer-issuer.ensures.exact
 
   -- ---- what the part of its lane comes to: each part in turn
 
@@ -142,9 +128,10 @@ module _ (c : goal.After-slice_known-in-Record-1) where
   ending : held_turned kept c.if-v.requests c.if-v.tasks c.answered-a.result ≡ held_end kept n c.judge-v.result c.judge-v.result.ends
   ending =
       let v = c.judge-v.result in
+      let said = c.answered-a.ensures.exact ∙ ap₂ (answering kept.said) c.from.ensures c.label.ensures.exact in
       elim c.if-v.branch [
-        | then-v w ↦ ended kept n v c.answered-a.ensures.exact w.if-v.true (w.requests-is ∙ w.remove-requests.ensures.exact) (w.tasks-is ∙ w.forget-tasks.ensures.exact)
-        | else-v w ↦ went_on kept n v c.answered-a.ensures.exact w.if-v.false w.requests-is w.tasks-is
+        | then-v w ↦ ended kept n v said w.if-v.true (w.requests-is ∙ w.remove-requests.ensures.exact) (w.tasks-is ∙ w.forget-tasks.ensures.exact)
+        | else-v w ↦ went_on kept n v said w.if-v.false w.requests-is w.tasks-is
       ]
 
   -- the parts after the record, and its answer
@@ -154,7 +141,7 @@ module _ (c : goal.After-slice_known-in-Record-1) where
   stepped : lent replied c.if-for_store.items ≡ turned (step_on t r)
   stepped =
       ending
-      ∙ held_step t r n c.if-issuer-ne-SYSTEM.may l kept c.if-decides.by c.judge-v.result c.issuer-issuer.ensures.exact may c.lane_of-lane.ensures.exact by_lane by_setting
+      ∙ held_step t r n c.may_send-may.result l kept c.if-decides.by c.judge-v.result c.issuer-issuer.ensures.exact may c.lane_of-lane.ensures.exact by_lane by_setting
       c.judge-v.ensures.exact
 
   -- the type's own fact of the answer's bytes, which is all that is known of how many it has
@@ -182,14 +169,6 @@ slice_bounds-rec-end c = let a = (onward c.loop-start.invariant _ _ c.in-Record.
 
 pub slice_bounds-rec-count : goal.slice_bounds-rec-count
 slice_bounds-rec-count c = let a = (onward c.loop-start.invariant _ _ c.in-Record.ensures.exact).ahead in omega arith
-
-pub loop-i-init : goal.loop-i-init
-loop-i-init c = seeks_start _ _ _ _ _ c.least-m.ensures.exact c.loop-start.invariant.typed.requests.rows
-
-pub loop-i-preserved : goal.loop-i-preserved
-loop-i-preserved c =
-    seeks_on (task c.issuer-issuer.result) c.loop-start.requests c.least-m.result c.loop-i.i c.loop-i.invariant (omega arith)
-    (sym c.is_task.ensures.exact ∙ c.if-is_task.false)
 
 pub overflow_add-written : goal.overflow_add-written
 overflow_add-written c =

@@ -1,7 +1,5 @@
 use Prim.Native.Nat.{◌-◌}
 use lib.ListN.{length}
-use Rattle.interval.specs.Active.{task}
-use Rattle.interval.proofs.Seeks.{Sought}
 use Rattle.monitor.proofs.Laws.Held.{parts}
 use Rattle.monitor.specs.Table.{tables}
 use Rattle.lists.proofs.Running.{Running}
@@ -13,9 +11,3 @@ invariant-loop-start l =
 
 abbrev pub decreases-loop-start : goal.decreases-loop-start
 decreases-loop-start l = length l.list - l.at
-
-abbrev pub invariant-loop-i : goal.invariant-loop-i
-invariant-loop-i l = Sought (task l.issuer) l.requests l.m l.i
-
-abbrev pub decreases-loop-i : goal.decreases-loop-i
-decreases-loop-i l = l.m - l.i

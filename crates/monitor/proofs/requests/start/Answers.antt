@@ -10,7 +10,7 @@ returns c = record {
   exact = told started_of
       (c.start-s.ensures.exact
       ∙ ap (start_in c.args.t)
-      (read_alike c.name_at-name.ensures.exact c.number4_at-program.ensures.exact c.number4_at-terminal.ensures.exact
-      c.number4_at-ticks.ensures.exact c.rest_at.ensures.exact))
+      (read_alike c.name_at.ensures.exact c.number4_at.ensures.exact c.number4_at-2.ensures.exact
+      c.number4_at-3.ensures.exact c.rest_at.ensures.exact))
       (plainly c.start_code.ensures c.plain.ensures.exact);
 }

@@ -1,10 +1,9 @@
-use Prim.Native.Nat.{◌-◌}
 use lib.ListN.{length}
 use Rattle.print.proofs.Printed.{Printed}
 use Rattle.print.proofs.lines.lines.Given as goal
 
-abbrev pub invariant-loop-end : goal.invariant-loop-end
-invariant-loop-end l = Printed l.answers l.initial.out l.out l.end l.place l.from
+abbrev pub invariant-loop-n : goal.invariant-loop-n
+invariant-loop-n l = Printed l.answers l.initial.out l.out l.end l.place l.left
 
-abbrev pub decreases-loop-end : goal.decreases-loop-end
-decreases-loop-end l = length l.answers - l.from
+abbrev pub decreases-loop-n : goal.decreases-loop-n
+decreases-loop-n l = length l.left

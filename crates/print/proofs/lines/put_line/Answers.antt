@@ -13,8 +13,8 @@ returns c =
     let left = length-drop 10 a.answer.now in
     let rest = take_all (length a.answer.now - 10) (drop 10 a.answer.now) (omega arith) in
     line_put a.place (answer_of a.answer.now) _ _ _ _ _ _ _ _ c.put_word-a.ensures
-    (word_told _ _ _ _ c.number.ensures.0 c.put_word-b.ensures)
-    (word_told _ _ _ _ c.number-2.ensures.0 c.put_word-c.ensures)
-    (word_told _ _ _ _ c.number-3.ensures.0 c.put_word-d.ensures)
-    (word_told _ _ _ _ c.number-4.ensures.0 c.put_word-e.ensures)
+    (word_told _ _ _ _ c.number_at.ensures.exact c.put_word-b.ensures)
+    (word_told _ _ _ _ c.number_at-2.ensures.exact c.put_word-c.ensures)
+    (word_told _ _ _ _ c.number_at-3.ensures.exact c.put_word-d.ensures)
+    (word_told _ _ _ _ c.number_at-4.ensures.exact c.put_word-e.ensures)
     (bytes_told _ _ (take (length a.answer.now - 10) (drop 10 a.answer.now)) (drop 10 a.answer.now) rest c.put_bytes-f.ensures) c.put.ensures

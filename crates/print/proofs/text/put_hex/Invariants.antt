@@ -1,12 +1,8 @@
 use mathlib.Core.Path.{◌≡◌}
-use Prim.Native.Nat.{◌-◌, ◌≤◌}
-use lib.ListN.{length, drop}
+use lib.ListN.{drop}
 use Rattle.frames.specs.Writing.{written}
 use Rattle.print.specs.Text.{puts, hex_of}
 use Rattle.print.proofs.text.put_hex.Given as goal
 
-abbrev pub invariant-loop-i : goal.invariant-loop-i
-invariant-loop-i l = (puts (written l.end l.out) (hex_of (drop l.i l.bytes)) ≡ puts (written l.at l.initial.out) (hex_of l.bytes)) × (l.i ≤ length l.bytes) × (length l.out ≡ length l.initial.out)
-
-abbrev pub decreases-loop-i : goal.decreases-loop-i
-decreases-loop-i l = length l.bytes - l.i
+abbrev pub invariant-loop-byte : goal.invariant-loop-byte
+invariant-loop-byte l = puts (written l.end l.out) (hex_of (drop l.byte-index l.bytes)) ≡ puts (written l.at l.initial.out) (hex_of l.bytes)

@@ -1,32 +1,19 @@
--- `queue_sound::rows::pointers_sound` meets its contract: what is left of the rows has its pointers right exactly if all rows have. Assumes nothing.
-use mathlib.Core.Path.{sym, ◌∙◌}
-use native.Mathlib.Omega.{arith}
-use borrow.Author.Rules.{rules}
-use lib.ListN.{take}
-use Rattle.queue_sound.proofs.Pointers.{pointed_hit, pointed_miss, pointed_end}
+-- `queue_sound::rows::pointers_sound` meets its contract. Assumes nothing.
+use Rattle.std.proofs.Common.{ℕ, List, leb, take, ap₂, ◌∙◌, rules, tests}
+use Rattle.std.proofs.lemmas.Iterator.{YieldsList-from_slice, YieldsList-from_zip}
+use Rattle.std.proofs.lemmas.Iterator.Search.{all_from_yields_List}
+use Rattle.std.proofs.lemmas.Iterator.Consumers.{YieldsList-at}
+use Rattle.base.specs.Lists.{copies}
+use Rattle.queue_rows.specs.Sound.{pointed}
+use Rattle.queue_sound.proofs.Pointers.{pointed_zip}
 use Rattle.queue_sound.proofs.rows.pointers_sound.Goals as goal
-
-pub returns-then-pointers-i : goal.returns-then-pointers-i
-returns-then-pointers-i c =
-    let l = c.loop-i in
-    let a = c.args in
-    sym (pointed_miss (take a.n a.owner.now) a.names.now a.pointers.now a.count l.i _ c.tally.result l.invariant.1
-    c.loop-i-test.true c.tally.ensures.exact c.if-pointers-i.true)
-    ∙ l.invariant.2
-
-pub loop-i-preserved : goal.loop-i-preserved
-loop-i-preserved c =
-    let l = c.loop-i in
-    let a = c.args in (
-      search rules,
-      l.invariant.1,
-      pointed_hit (take a.n a.owner.now) a.names.now a.pointers.now a.count l.i _ c.tally.result l.invariant.1
-          c.loop-i-test.true c.tally.ensures.exact c.if-pointers-i.false
-          ∙ l.invariant.2,
-    )
 
 pub returns : goal.returns
 returns c =
-    let l = c.loop-i in
     let a = c.args in
-    sym (pointed_end (take a.n a.owner.now) a.names.now a.pointers.now a.count l.i (omega arith)) ∙ l.invariant.2
+    let os : List ℕ = take a.n a.owner.now in
+    all_from_yields_List (λ (p : ℕ × ℕ). leb p.1 (copies p.0 os)) c.all.new.self _ c.all.result c.all.ensures.ran
+    (YieldsList-from_zip (YieldsList-at c.zip-rows.ensures.first (YieldsList-from_slice c.front.result.now cc)) (YieldsList-from_slice c.front-2.result.now cc))
+    (λ x b q k. search (rules, tests))
+    ∙ pointed_zip os c.front.result.now c.front-2.result.now
+    ∙ ap₂ (pointed os) c.front.ensures.exact c.front-2.ensures.exact

@@ -1,24 +1,14 @@
--- `remove::place` meets its contract: the names are a column of the live words. Assumes nothing.
-use Rattle.std.proofs.Common.{ℕ, eqb, List, ap, ◌∙◌, arith}
-use Rattle.base.specs.Lists.{first_at}
-use Rattle.words.specs.Rows.{column}
-use Rattle.request_rows.specs.Table.{view_of, live}
-use Rattle.request_rows.specs.Laws.View.{rows_in_lem, live_count, live_words, names_first}
+-- `remove::place` meets its contract. Assumes nothing.
+use Rattle.std.proofs.Common.{◌∙◌, rules, tests}
+use Rattle.std.proofs.lemmas.Iterator.{YieldsList-from_slice}
+use Rattle.std.proofs.lemmas.Iterator.Search.{position_from_yields_List}
+use Rattle.request_rows.specs.Rows.{row_of, named}
+use Rattle.request_rows.specs.Laws.View.{position_rows}
 use Rattle.request_ops.proofs.remove.place.Goals as goal
-
-pub overflow_mul-count : goal.overflow_mul-count
-overflow_mul-count c = let w = c.args.requests.now in omega (arith, rows_in_lem w, live_count w)
-
-pub overflow_add-head : goal.overflow_add-head
-overflow_add-head c = let w = c.args.requests.now in omega (arith, rows_in_lem w, live_count w)
 
 pub returns : goal.returns
 returns c =
     let a = c.args in
-    let w = a.requests.now in
-    c.find.ensures.exact
-    ∙ ap (λ (l : List ℕ). first_at (λ x. eqb x a.name) (column 3 l)) (live_words w _ _ c.count.ensures.exact c.least-head.ensures.exact)
-    ∙ names_first a.name (live (view_of w))
-
-pub slice_bounds-find-end : goal.slice_bounds-find-end
-slice_bounds-find-end c = let w = c.args.requests.now in omega (arith, rows_in_lem w, live_count w)
+    position_from_yields_List (λ x. named a.name (row_of x)) _ _ c.position.result c.position.ensures.ran (YieldsList-from_slice c.live.result.now cc)
+    (λ x b q k. search (rules, tests))
+    ∙ position_rows _ _ c.live.ensures.exact (named a.name)

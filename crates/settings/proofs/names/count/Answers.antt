@@ -1,12 +1,11 @@
 -- `names::count` meets its contract. Assumes nothing.
-use native.Mathlib.Omega.{arith}
-use lib.ListN.{length-take}
-use Rattle.settings.specs.Table.{view_of}
-use Rattle.settings.proofs.Clauses.{count_both}
+use Rattle.std.proofs.Common.{length-take, sym, ◌∙◌, ◌≡◌, length, arith}
+use Rattle.settings.specs.Table.{view_of, live}
+use Rattle.settings.specs.Laws.Standing.{length_stands}
 use Rattle.settings.proofs.names.count.Goals as goal
 
-pub returns : goal.returns
-returns c =
+pub returns-clause-model : goal.returns-clause-model
+returns-clause-model c =
     let t = view_of c.args.settings.now in
-    let all = count_both t c.least.result (omega (arith, length-take t.count t.rows, c.least.ensures.exact, c.rows_in.ensures)) in
-    record { exact = all.0; model = all.1 }
+    let e : c.min.result ≡ length (live t) = omega (arith, length-take t.count t.rows, c.word_at.ensures.exact) in
+    e ∙ sym (length_stands t)

@@ -1,64 +1,53 @@
 -- `set::put` meets its contract: a word is stored in the task's row, or a row is added. Assumes nothing.
-use Prim.Native.Nat.{ℕ}
-use mathlib.Core.Path.{◌≡◌, ap, ◌∙◌}
-use native.Mathlib.Omega.{arith}
+use Rattle.std.proofs.Common.{ℕ, ◌≡◌, ◌+◌, ◌*◌, ◌<◌, length, ap, ◌∙◌, arith}
 use Rattle.settings.specs.Table.{view_of}
 use Rattle.settings.specs.Set.{set_in}
 use Rattle.settings.specs.Laws.Lent.{cell_fits, cell_put}
 use Rattle.settings.proofs.Coded.{fits, found, there, set_held, set_none}
 use Rattle.settings.proofs.set.put.Goals as goal
+use Rattle.settings.proofs.set.put.Goals.{In-Some}
 
-pub place-i-requires : goal.place-i-requires
-place-i-requires c = fits (view_of c.args.settings.now) c.count-n.result c.count-n.ensures.exact
+pub place-requires : goal.place-requires
+place-requires c = fits (view_of c.args.settings.now) c.count-n.result c.count-n.ensures.exact
 
 -- where the setting stands in the words
-pub overflow_mul-settings : goal.overflow_mul-settings
-overflow_mul-settings c =
+cell : (c : In-Some) → c.in-Some.i * 12 + 2 + c.from-c.result < length c.args.settings.now
+cell c =
     let w = c.args.settings.now in
-    let row = there (found (view_of w) c.count-n.ensures.exact c.place-i.ensures) c.if-i-n.true in
-    omega (arith, cell_fits w c.place-i.result row c.wide-c.result (omega arith))
+    cell_fits w c.in-Some.i (there (found (view_of w) c.count-n.ensures.exact c.in-Some.ensures)) c.from-c.result (omega arith)
+
+pub overflow_mul-settings : goal.overflow_mul-settings
+overflow_mul-settings c = omega (arith, cell c)
 
 pub overflow_add-settings : goal.overflow_add-settings
-overflow_add-settings c =
-    let w = c.args.settings.now in
-    let row = there (found (view_of w) c.count-n.ensures.exact c.place-i.ensures) c.if-i-n.true in
-    omega (arith, cell_fits w c.place-i.result row c.wide-c.result (omega arith))
+overflow_add-settings c = omega (arith, cell c)
 
-pub overflow_add-settings-then-i-n : goal.overflow_add-settings-then-i-n
-overflow_add-settings-then-i-n c =
-    let w = c.args.settings.now in
-    let row = there (found (view_of w) c.count-n.ensures.exact c.place-i.ensures) c.if-i-n.true in
-    omega (arith, cell_fits w c.place-i.result row c.wide-c.result (omega arith))
+pub overflow_add-settings-in-Some : goal.overflow_add-settings-in-Some
+overflow_add-settings-in-Some c = omega (arith, cell c)
 
 pub offset_bounds-settings-i : goal.offset_bounds-settings-i
-offset_bounds-settings-i c =
-    let w = c.args.settings.now in
-    let row = there (found (view_of w) c.count-n.ensures.exact c.place-i.ensures) c.if-i-n.true in
-    omega (arith, cell_fits w c.place-i.result row c.wide-c.result (omega arith))
+offset_bounds-settings-i c = omega (arith, cell c)
 
 pub bounds-settings-i : goal.bounds-settings-i
-bounds-settings-i c =
-    let w = c.args.settings.now in
-    let row = there (found (view_of w) c.count-n.ensures.exact c.place-i.ensures) c.if-i-n.true in
-    omega (arith, cell_fits w c.place-i.result row c.wide-c.result (omega arith))
+bounds-settings-i c = cell c
 
-pub returns-then-i-n : goal.returns-then-i-n
-returns-then-i-n c =
+pub returns-in-Some : goal.returns-in-Some
+returns-in-Some c =
     let a = c.args in
     let w = a.settings.now in
-    let k = c.wide-c in
-    let e : k.result ≡ a.condition = k.ensures.exact in
-    let f = found (view_of w) c.count-n.ensures.exact c.place-i.ensures in
-    cell_put w c.place-i.result (there f c.if-i-n.true) k.result c.setting_word-w.result (omega arith)
-    ∙ set_held f c.if-i-n.true k.result c.setting_word-w.result a.setting c.setting_word-w.ensures.exact
-    ∙ ap (λ (j : ℕ). set_in (view_of w) a.task j a.setting) e
+    let k = c.from-c in
+    let x = c.from-w in
+    let e : k.result ≡ a.condition = omega arith in
+    let f = found (view_of w) c.count-n.ensures.exact c.in-Some.ensures in
+    cell_put w c.in-Some.i (there f) k.result x.result (omega arith)
+    ∙ set_held f k.result x.result a.setting x.ensures ∙ ap (λ (j : ℕ). set_in (view_of w) a.task j a.setting) e
 
-pub returns-else-i-n : goal.returns-else-i-n
-returns-else-i-n c =
+pub returns-in_default : goal.returns-in_default
+returns-in_default c =
     let a = c.args in
     let t = view_of a.settings.now in
-    let k = c.wide-c in
-    let e : k.result ≡ a.condition = k.ensures.exact in
-    c.add.ensures
-    ∙ set_none (found t c.count-n.ensures.exact c.place-i.ensures) c.if-i-n.false k.result c.setting_word-w.result a.setting c.setting_word-w.ensures.exact
+    let k = c.from-c in
+    let x = c.from-w in
+    let e : k.result ≡ a.condition = omega arith in
+    c.add.ensures ∙ set_none t c.count-n.result a.task c.count-n.ensures.exact c.in_default.ensures k.result x.result a.setting x.ensures
     ∙ ap (λ (j : ℕ). set_in t a.task j a.setting) e

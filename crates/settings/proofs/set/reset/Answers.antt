@@ -9,4 +9,4 @@ unfolding reset_in
 returns c =
     let a = c.args in
     let s = c.set_to.ensures in
-    record { exact = s.exact; short = s.short; model = reset_obeys (view_of a.settings.now) a.task a.condition c.set_to.result (view_of c.set_to.new.settings) s.exact }
+    record { exact = s; model = reset_obeys (view_of a.settings.now) a.task a.condition c.set_to.result (view_of c.set_to.new.settings) s }

@@ -1,17 +1,11 @@
 -- `hear` meets its contract: the command, what the handlers decide, the head (proofs/Turning.antt, `heard`). Assumes nothing.
-use native.Mathlib.Omega.{arith}
-use Rattle.turn_rules.specs.Tables.{tables_of, known_of}
+use Rattle.turn_rules.specs.Tables.{known_of}
+use Rattle.turn_rules.specs.Lent.{held}
 use Rattle.turns.proofs.Turning.{heard}
 use Rattle.turns.proofs.turn.hear.Goals as goal
 
-pub returns : goal.returns
-returns c =
+pub returns-clause-exact : goal.returns-clause-exact
+returns-clause-exact c =
     let a = c.args in
-    let l = c.obey-said.new in
-    let u = tables_of l.programs l.terminals l.requests l.area l.queues l.items l.settings in
-    record {
-      exact =
-          heard a.issuer _ a.out.now c.obey-said.result u l.body c.obey-said.ensures.exact c.obey-said.ensures.short c.code-condition.result c.code-condition.ensures.exact
-          c.settle-v.result (known_of c.settle-v.new.requests c.settle-v.new.settings) c.settle-v.ensures.exact c.requires _ c.put_head.ensures.exact;
-      short = (let h = c.obey-said.ensures.short in omega arith);
-    }
+    heard a.heard.issuer _ a.out.now c.obey-said.result (held c.obey-said.new.t) c.obey-said.new.body c.obey-said.ensures.exact c.from-condition.result c.from-condition.ensures
+    c.settle-action.result (known_of c.settle-action.new.requests c.settle-action.new.settings) c.settle-action.ensures.exact c.requires _ _ c.from.ensures c.label.ensures.exact _ c.put_head.ensures.exact

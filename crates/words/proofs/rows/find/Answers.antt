@@ -1,24 +1,32 @@
 -- `rows::find` meets its contract: what was passed has none of the name, so the first is among what is left. Assumes nothing.
-use Prim.Native.Nat.{◌+◌}
-use native.Mathlib.Omega.{arith}
-use borrow.Author.Tests.{eq-eqb, ne_eqb}
-use lib.Dec.{eqb}
-use Rattle.words.specs.Laws.Column.{scan_start, scan_hit, scan_on, scan_end}
+use Rattle.std.proofs.Common.{◌≡◌, ℕ, ◌+◌, ◌-◌, ◌^◌, ◌<◌, min, List, ◌++◌, ap, ◌∙◌, Some, arith, eq-eqb, ne_eqb, length, length-append}
+use Rattle.words.specs.Laws.Column.{is_row, scan_hit, scan_on, scan_end}
 use Rattle.words.proofs.rows.find.Goals as goal
 
-pub loop-at-init : goal.loop-at-init
-loop-at-init c =
-    let a = c.args in
-    scan_start a.gap a.t.now (λ m. eqb m a.name) (c.least-step.result + 1) (omega arith)
+-- a chunk is a row of what is left: no slice is so long that the width that is asked for would matter
+row_of : (gap size : ℕ) (left row rest : List ℕ) → size ≡ min (gap + 1) (2 ^ 64 - 1) → length left < 2 ^ 64 - 1
+    → left ≡ row ++ rest → length row ≡ min size (length left) → 0 < length left → is_row gap row rest
+row_of gap size left row rest w b e n h = let k = ap length e in (omega arith, omega arith)
 
-pub returns-then-t-at : goal.returns-then-t-at
-returns-then-t-at c =
-    let l = c.loop-at in record { exact = scan_hit l.invariant (omega arith) (eq-eqb _ _ c.if-t-at.true) }
+pub returns-then-row-name : goal.returns-then-row-name
+returns-then-row-name c =
+    let s = c.in-Some.ensures.steps in
+    let v = c.loop-i.invariant in
+    record {
+      exact = ap Some s.1
+          ∙ scan_hit v.scanned _ _ s.0.1.0 (row_of _ _ _ _ _ v.width (omega arith) s.0.1.0 s.0.1.1 s.0.1.2) (eq-eqb _ _ c.if-row-name.true);
+    }
 
-pub loop-at-preserved : goal.loop-at-preserved
-loop-at-preserved c =
-    let l = c.loop-at in
-    scan_on l.invariant (omega arith) (ne_eqb _ _ c.if-t-at.false)
+pub loop-i-preserved : goal.loop-i-preserved
+loop-i-preserved c =
+    let s = c.in-Some.ensures.steps in
+    let v = c.loop-i.invariant in
+    record {
+      scanned = scan_on v.scanned _ _ s.0.1.0 (row_of _ _ _ _ _ v.width (omega arith) s.0.1.0 s.0.1.1 s.0.1.2) _ s.2 (ne_eqb _ _ c.if-row-name.false);
+      width = s.0.0 ∙ v.width;
+      short = omega (arith, ap length s.0.1.0, length-append {A = ℕ});
+    }
 
 pub returns : goal.returns
-returns c = record { exact = scan_end c.loop-at.invariant (omega arith) }
+returns c =
+    let s = c.in-None.ensures.steps in record { exact = scan_end c.loop-i.invariant.scanned s.0.1.0 }

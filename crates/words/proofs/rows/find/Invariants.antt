@@ -1,11 +1,12 @@
-use Prim.Native.Nat.{◌-◌}
-use lib.Dec.{eqb}
-use lib.ListN.{length}
+use Rattle.std.proofs.Common.{◌≡◌, ◌+◌, ◌-◌, ◌^◌, ◌≤◌, eqb, length, min}
+use Rattle.std.specs.Iterator.Adapters.{enumerate_source, enumerate_count}
+use Rattle.std.specs.Slice.Iter.{chunks_rest, chunks_size}
 use Rattle.words.specs.Laws.Column.{Scanned}
 use Rattle.words.proofs.rows.find.Given as goal
 
-abbrev pub invariant-loop-at : goal.invariant-loop-at
-invariant-loop-at l = Scanned l.gap l.t (λ m. eqb m l.name) l.step l.i l.at
-
-abbrev pub decreases-loop-at : goal.decreases-loop-at
-decreases-loop-at l = length l.t - l.at
+abbrev pub invariant-loop-i : goal.invariant-loop-i
+invariant-loop-i l = record {
+  scanned : Scanned l.gap l.t (λ m. eqb m l.name) (enumerate_count l.i-iterator) (chunks_rest (enumerate_source l.i-iterator));
+  width : chunks_size (enumerate_source l.i-iterator) ≡ min (l.gap + 1) (2 ^ 64 - 1);
+  short : length (chunks_rest (enumerate_source l.i-iterator)) ≤ length l.t;
+}

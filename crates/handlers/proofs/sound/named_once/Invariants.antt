@@ -1,0 +1,8 @@
+-- `sound::named_once`: the names before i stand once.
+use Rattle.std.proofs.Common.{◌≡◌, true, take, map}
+use Rattle.base.specs.Lists.{once}
+use Rattle.handlers.specs.Names.{name_of}
+use Rattle.handlers.proofs.sound.named_once.Given as goal
+
+abbrev pub invariant-loop-i : goal.invariant-loop-i
+invariant-loop-i l = once (take l.i (map name_of l.rows)) ≡ true
