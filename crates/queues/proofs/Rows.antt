@@ -1,7 +1,7 @@
 -- What the library's methods say of the live rows and entries, in the words of Table. Assumes nothing.
-use Rattle.std.specs.Prelude.{◌≡◌, refl, ℕ, ◌≤◌, ◌<◌, Bool, true, false, ◌&&◌, List, [], ◌∷◌, length, take, eqb, leb, map, filter, zip, position, Some, None, is_some}
+use Rattle.std.specs.Prelude.{◌≡◌, refl, ℕ, suc, ◌+◌, ◌-◌, ◌≤◌, ◌<◌, min, Bool, true, false, ◌&&◌, List, [], ◌∷◌, length, take, drop, get_or, eqb, leb, zip, position, slice_get, Option, Some, None, is_some}
 use Rattle.std.specs.List.{list_all}
-use Rattle.std.proofs.Common.{sym, ap, ◌∙◌, arith, length-take}
+use Rattle.std.proofs.Common.{sym, ap, ap₂, ◌∙◌, arith, add-one, drop-cons, length-take, eq-eqb, ne_eqb}
 use Rattle.base.specs.Choice.{pick}
 use Rattle.base.specs.Lists.{has, copies}
 use Rattle.base.specs.Laws.Tests.{by_test}
@@ -35,11 +35,33 @@ module _ (q : Queues) (n : ℕ) where
       let f = row_some r e in
       omega (arith, f.1, first_at_lt (λ m. eqb m n) (names_of q) f.0, length-take q.count q.names)
 
--- the slots of a name, as the entries whose owner it is
-pub slots_zip : (n : ℕ) (os ss : List ℕ) → map (λ (p : ℕ × ℕ). p.1) (filter (λ (p : ℕ × ℕ). eqb p.0 n) (zip os ss)) ≡ slots_of n os ss
-slots_zip n [] ss = refl
-slots_zip n (o ∷ os) [] = refl
-slots_zip n (o ∷ os) (s ∷ ss) = by_test (eqb o n) (λ t. rw t (ap (λ (r : List ℕ). s ∷ r) (slots_zip n os ss))) (λ t. rw t (slots_zip n os ss))
+-- fronts of lists that are as long
+pub fronts_long : (n : ℕ) (os ss : List ℕ) → length os ≡ length ss → length (take n os) ≡ length (take n ss)
+fronts_long n os ss e = length-take n os ∙ ap (min n) e ∙ sym (length-take n ss)
+
+-- ---- the search for the slot behind k others, from entry i on
+
+module _ (m : ℕ) (os ss : List ℕ) (i k : ℕ) where
+  abbrev pub seek : Option ℕ
+  seek = slice_get (slots_of m (drop i os) (drop i ss)) k
+
+  abbrev rest : List ℕ
+  rest = slots_of m (drop (i + 1) os) (drop (i + 1) ss)
+
+  module _ (h : i < length os) (g : i < length ss) where
+    opened : slots_of m (drop i os) (drop i ss) ≡ pick (eqb (get_or os i 0) m) (get_or ss i 0 ∷ rest) rest
+    opened =
+        ap₂ (slots_of m) (drop-cons os i 0 h) (drop-cons ss i 0 g)
+        ∙ ap (λ (j : ℕ). pick (eqb (get_or os i 0) m) (get_or ss i 0 ∷ slots_of m (drop j os) (drop j ss)) (slots_of m (drop j os) (drop j ss))) (sym (add-one i))
+
+    pub seek_miss : (get_or os i 0 ≡ m → ⊥) → slice_get rest k ≡ seek
+    seek_miss d = rw (opened, ne_eqb (get_or os i 0) m d)
+
+    pub seek_past : get_or os i 0 ≡ m → (k ≡ 0 → ⊥) → slice_get rest (k - 1) ≡ seek
+    seek_past e d =
+        let p : k ≡ suc (k - 1) = omega arith in
+        let s : seek ≡ slice_get (slots_of m (drop i os) (drop i ss)) (suc (k - 1)) = ap (slice_get (slots_of m (drop i os) (drop i ss))) p in
+        sym (s ∙ rw (opened, eq-eqb (get_or os i 0) m e))
 
 -- ---- the pointers of the rows
 

@@ -14,15 +14,21 @@ pub(crate) fn is_item(n: usize) -> bool
 
 impl Queues {
     // The slot of the queue's item that stands behind `index` others, if there is one.
+    // A `for`, as a read in a full queue is measured (docs/SPEED.md); queue_ops has the same as a chain.
     fn nth(&self, name: u64, index: usize) -> Option<usize>
         ensures { result ≡ slice_get (slots_in self.now name) index }
     {
-        self.owners()
-            .iter()
-            .zip(self.places())
-            .filter(|(o, _)| **o == name)
-            .map(|(_, s)| usize::from(*s))
-            .nth(index)
+        let mut before = index;
+        let owners = self.owners();
+        for (e, owner) in owners.iter().enumerate() {
+            if *owner == name {
+                if before == 0 {
+                    return Some(usize::from(self.slot[e]));
+                }
+                before -= 1;
+            }
+        }
+        None
     }
 
     // The slot of the queue's item at a place, from 1, if there is one.

@@ -1,25 +1,24 @@
--- `Queues::nth` meets its contract: the chain over the entries. Assumes nothing.
-use Rattle.std.proofs.Common.{ℕ, eqb, rules, tests, sym, ap, ap₂, ◌∙◌, List, slice_get}
-use Rattle.std.proofs.lemmas.Iterator.{YieldsList-from_slice, YieldsList-from_zip, YieldsList-from_map}
-use Rattle.std.proofs.lemmas.Iterator.Adapters.{option_map_id}
-use Rattle.std.proofs.lemmas.Iterator.Consumers.{YieldsList-at, YieldsList-from_filter, nth_from_yields_List}
-use Rattle.queues.specs.Table.{slots_of}
-use Rattle.queues.proofs.Rows.{slots_zip}
+-- `Queues::nth` meets its contract: the item sought stands behind so many others from entry e on. Assumes nothing.
+use Rattle.std.specs.Prelude.{◌≡◌, ◌<◌, ◌+◌, List, ℕ, length, get_or}
+use Rattle.std.proofs.Common.{sym, ap, ◌∙◌, subst, arith, rules}
+use Rattle.queues.specs.Table.{entries, owners, places}
+use Rattle.queues.proofs.Rows.{seek, fronts_long, seek_miss, seek_past}
 use Rattle.queues.proofs.Queues.nth.Goals as goal
+use Rattle.queues.proofs.Queues.nth.Goals.{then-owner-name+else-before-eq0, else-owner-name}
 
-pub returns : goal.returns
-returns c =
+pub loop-e-preserved : goal.loop-e-preserved
+loop-e-preserved c =
     let a = c.args in
-    sym (option_map_id c.nth.result)
-    ∙ nth_from_yields_List c.nth.result c.nth.new.self a.index c.nth.ensures.ran
-    (YieldsList-from_map _ (λ (p : ℕ × ℕ). p.1)
-    (YieldsList-at c.map.ensures.source
-    (YieldsList-from_filter _ (λ (p : ℕ × ℕ). eqb p.0 a.name)
-    (YieldsList-at c.filter.ensures.source
-    (YieldsList-from_zip
-    (YieldsList-at c.zip.ensures.first (YieldsList-from_slice c.owners.result.now cc))
-    (YieldsList-from_slice c.places.result.now cc)))
-    c.filter.ensures.closure (λ x b q k. search (rules, tests))))
-    c.map.ensures.closure (λ x b q k. search (rules, tests)))
-    ∙ ap (λ (r : List ℕ). slice_get r a.index) (slots_zip a.name c.owners.result.now c.places.result.now)
-    ∙ ap₂ (λ (x y : List ℕ). slice_get (slots_of a.name x y) a.index) c.owners.ensures c.places.ensures
+    let q = a.self.now in
+    let l = c.loop-e in
+    let is = c.owners-owners.ensures in
+    let o : l.e < length (owners q) = subst (λ (x : List ℕ). l.e < length x) is c.loop-e-test.true in
+    let s : l.e < length (places q) = omega (arith, fronts_long (entries q) q.owner q.slot (search rules)) in
+    let at : get_or (owners q) l.e 0 ≡ get_or c.owners-owners.result.now l.e 0 = rw is in
+    let after = seek a.name (owners q) (places q) (l.e + 1) in
+    elim c.if-owner-name.branch [
+      | then-owner-name+else-before-eq0 w ↦
+          ap after w.before-is ∙ seek_past a.name (owners q) (places q) l.e l.before o s (at ∙ w.if-owner-name.true) w.if-before-eq0.false ∙ l.invariant
+      | else-owner-name w ↦
+          ap after w.before-is ∙ seek_miss a.name (owners q) (places q) l.e l.before o s (λ e. w.if-owner-name.false (sym at ∙ e)) ∙ l.invariant
+    ]
