@@ -114,9 +114,17 @@ def edits(text):
 
 LISTED = [
     # base
-    ("base/Choice", "pick true a b = a", "pick true a b = b"),
-    ("base/Choice", "pick false a b = b", "pick false a b = a"),
-    ("base/Lists", "pick (p x) (x ∷ keep p xs) (keep p xs)", "pick (p x) (keep p xs ++ (x ∷ [])) (keep p xs)"),
+    ("base/Choice", "pick c a b = cond c a b", "pick c a b = cond c b b"),
+    ("base/Choice", "pick c a b = cond c a b", "pick c a b = cond c a a"),
+    # what is a word of the library is written out to be edited
+    ("base/Lists", "keep p l = filter p l", "keep p [] = []\n  keep p (x ∷ xs) = pick (p x) (keep p xs ++ (x ∷ [])) (keep p xs)"),
+    ("base/Lists", "keep p l = filter p l", "keep p [] = []\n  keep p (x ∷ xs) = pick (p x) (keep p xs) (x ∷ keep p xs)"),
+    ("base/Lists", "keep p l = filter p l", "keep p l = l"),
+    ("base/Lists", "keep p l = filter p l", "keep p l = []"),
+    ("base/Lists", "all p l = list_all p l", "all p [] = false\n  all p (x ∷ xs) = p x && all p xs"),
+    ("base/Lists", "all p l = list_all p l", "all p [] = true\n  all p (x ∷ xs) = p x"),
+    ("base/Lists", "all p l = list_all p l", "all p [] = true\n  all p (x ∷ xs) = p x && any p xs"),
+    ("base/Lists", "all p l = list_all p l", "all p l = true"),
     ("base/Lists", "over ks l = ks ++ drop (length ks) l", "over ks l = ks"),
     ("base/Lists", "over ks l = ks ++ drop (length ks) l", "over ks l = ks ++ l"),
     ("base/Sort", "sort le (x ∷ xs) = place le x (sort le xs)", "sort le (x ∷ xs) = x ∷ sort le xs"),

@@ -1,11 +1,12 @@
 -- What the writer's stores leave: each part is laid right behind what is written already. Assumes nothing.
-use mathlib.Core.Path.{◌≡◌, ap, ap₂, sym, ◌∙◌}
+use mathlib.Core.Path.{◌≡◌, refl, ap, ap₂, sym, ◌∙◌}
 use mathlib.Core.List.{List, [], ◌∷◌, ◌++◌, append_assoc}
 use Prim.Native.Nat.{ℕ, ◌+◌, ◌-◌, ◌/◌, ◌%◌, ◌≤◌, ◌<◌}
 use native.Mathlib.Omega.{arith}
 use lib.ListN.{length, drop, length-append}
 use lib.Seq.{drop-drop}
 use borrow.Rule.Slice.PartMut.{put_mid}
+use Rattle.std.proofs.lemmas.List.{take-append-drop, nil_from_length}
 use Rattle.std.specs.Int.{w16, w32, to_be_bytes}
 use Rattle.base.specs.Bytes.{bytes_of}
 use Rattle.base.specs.Lists.{over}
@@ -78,3 +79,12 @@ module _ (c a l m : ℕ) (bytes : List ℕ) (k : ℕ) where
       ∙ ap (put_mid 10 (length own) (over H out)) y ∙ over_behind H own out
       ∙ ap (λ (r : List ℕ). over (head_of c a l m (length r) ++ r) out) z in
       ap₂ (λ (i : ℕ) (r : List ℕ). written i r) long o ∙ sym (written_fits e out (omega arith))
+
+  -- none of its own: the ten bytes are all, and nothing is copied
+  pub head_alone : (own out out₁ : List ℕ) → own ≡ b → length own ≤ 0 → 10 + length own ≤ length out → out₁ ≡ (written_over (head_of c a l m (length own)) out).buffer
+      → written (10 + length own) out₁ ≡ written_over e out
+  head_alone own out out₁ z h k p =
+      let n : length own ≡ 0 = omega arith in
+      let x : own ≡ [] = nil_from_length own n in
+      let none : put_mid 10 (10 + length own - 10) out₁ own ≡ out₁ = rw x (take-append-drop 10 out₁) in
+      ap (λ (r : List ℕ). written (10 + length own) r) (sym none) ∙ all_put own own out out₁ z refl k p

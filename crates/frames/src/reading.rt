@@ -1,9 +1,11 @@
 // "The reader over the list keeps the list and its place together": a thin struct over the covered `record_at`.
 // A caller goes through `part_at`, whose parameters are plain.
-ghost use Rattle.std.specs.Prelude.{◌≡◌};
+ghost use Rattle.std.specs.Prelude.{◌≡◌, ◌+◌, ◌≤◌, length};
+ghost use Rattle.base.specs.Bytes.{num};
 ghost use Rattle.frames.specs.Reading.{part_at};
 
-use base::bytes::number_at;
+// "a record length below 9": the command and the issuer are 9 bytes.
+const LEAST: usize = 9;
 
 #[derive(Clone, Copy)]
 pub struct Reader<'a> {
@@ -20,6 +22,14 @@ pub enum Part {
     Bad,
 }
 
+// The two bytes at a place as a number: straight, and not by `number_at`, whose loop each record would pay for twice (docs/SPEED.md).
+fn length_at(list: &[u8], at: usize) -> usize
+    requires { at + 2 ≤ length list.now }
+    ensures { result ≡ num at 2 list.now }
+{
+    usize::from(u16::from_be_bytes([list[at], list[at + 1]]))
+}
+
 // The work: what stands at a place of a list.
 pub fn record_at(list: &[u8], at: usize) -> Part
     ensures exact { result ≡ part_at list.now at }
@@ -27,14 +37,20 @@ pub fn record_at(list: &[u8], at: usize) -> Part
     if list.len() <= at {
         return Part::End;
     }
-    let n = number_at(list, at, 2) as usize;
-    if 9 <= n && 2 + n <= list.len() - at {
-        Part::Record {
-            start: at + 2,
-            next: at + 2 + n,
-        }
-    } else {
-        Part::Bad
+    let room = list.len() - at;
+    if room < 2 {
+        return Part::Bad;
+    }
+    let n = length_at(list, at);
+    if n < LEAST {
+        return Part::Bad;
+    }
+    if room - 2 < n {
+        return Part::Bad;
+    }
+    Part::Record {
+        start: at + 2,
+        next: at + 2 + n,
     }
 }
 

@@ -28,7 +28,10 @@ pub fn write_answer(
         return 0;
     }
     put_head(out, condition, action, label, number, n);
-    out[HEAD..HEAD + n].copy_from_slice(own);
+    // most answers have none, and to copy nothing is a call all the same (docs/SPEED.md)
+    if n > 0 {
+        out[HEAD..HEAD + n].copy_from_slice(own);
+    }
     HEAD + n
 }
 

@@ -1,5 +1,5 @@
--- What the active tasks run and hold, as the library's words say it. Assumes nothing.
-use Rattle.std.proofs.Common.{◌≡◌, refl, ℕ, Bool, true, false, not, ◌&&◌, ◌||◌, List, [], ◌∷◌, map, length, sym, ap, ◌∙◌, eqb}
+-- What the active tasks run and hold: as it is gathered, and as the library's words say it. Assumes nothing.
+use Rattle.std.proofs.Common.{◌≡◌, refl, ℕ, Bool, true, false, not, ◌&&◌, ◌||◌, List, [], ◌∷◌, map, length, take, sym, ap, ap₂, ◌∙◌, eqb}
 use Rattle.std.specs.List.{list_any, count_by}
 use Rattle.std.proofs.lemmas.List.Sums.{length-filter}
 use Rattle.base.specs.Choice.{pick}
@@ -8,8 +8,13 @@ use Rattle.base.specs.Bytes.{blank}
 use Rattle.base.specs.Laws.Keep.{any_keep}
 use Rattle.base.specs.Laws.Library.{any_of, keep_of}
 use Rattle.interval.specs.declared.Request.{Request}
+use Rattle.interval.specs.declared.dispatch.Busy.{Busy}
 use Rattle.interval.specs.Rows.{active, expired}
-use Rattle.interval.specs.Dispatch.{blocks, program_of, terminal_of, free}
+use Rattle.interval.specs.Dispatch.{Runs, blocks, program_of, terminal_of, free_of, free}
+
+-- as it is gathered
+pub frees_is : (l : List Request) (b : Busy) → Runs (keep active l) b → (p m : ℕ) → free_of (take b.n b.programs) (take b.n b.terminals) p m ≡ free l p m
+frees_is l b r p m = ap₂ (λ (k o : List ℕ). free_of k o p m) r.programs r.terminals
 
 pub line_is : (l : List Request) → count_by expired l ≡ length (keep expired l)
 line_is l = sym (length-filter expired l) ∙ ap length (keep_of expired l)
@@ -39,7 +44,7 @@ free_split false true false = refl
 free_split false false true = refl
 free_split false false false = refl
 
--- as the code asks it
+-- as one test of each row asks it; nothing cites it
 pub free_is : (p m : ℕ) (l : List Request) → not (list_any (blocks p m) l) ≡ free l p m
 free_is p m l =
     ap not (any_of (blocks p m) l

@@ -1,5 +1,5 @@
 -- Dispatch.
-use Rattle.std.specs.Prelude.{ℕ, Bool, false, not, ◌&&◌, ◌||◌, List, [], ◌++◌, map, length, take, ◌==◌, slice_index_or, Option, Some, None}
+use Rattle.std.specs.Prelude.{◌≡◌, ℕ, Bool, false, not, ◌&&◌, ◌||◌, List, [], ◌++◌, map, length, take, ◌==◌, slice_index_or, Option, Some, None}
 use Rattle.base.specs.Choice.{pick}
 use Rattle.base.specs.Lists.{keep, any, first_at, has}
 use Rattle.base.specs.Bytes.{blank, bytes_of}
@@ -9,6 +9,7 @@ use Rattle.interval.specs.declared.Request.{Request}
 use Rattle.interval.specs.declared.Requests.{Requests}
 use Rattle.interval.specs.declared.answers.Task.{Task}
 use Rattle.interval.specs.declared.answers.Dispatched.{Dispatched}
+use Rattle.interval.specs.declared.dispatch.Busy.{Busy}
 use Rattle.interval.specs.Table.{live, in_phase}
 use Rattle.interval.specs.Rows.{expired, active, out_row, with_row}
 
@@ -30,6 +31,11 @@ terminal_of q = q.terminal
 -- an active task that holds program p or terminal m
 abbrev pub blocks : ℕ → ℕ → Request → Bool
 blocks p m q = active q && (q.program == p || (not (m == blank 4) && q.terminal == m))
+
+-- the columns of some rows
+pub record Runs (l : List Request) (b : Busy) : Type 0 where
+  pub programs : take b.n b.programs ≡ map program_of l
+  pub terminals : take b.n b.terminals ≡ map terminal_of l
 
 -- among running programs and held terminals
 abbrev pub free_of : List ℕ → List ℕ → ℕ → ℕ → Bool

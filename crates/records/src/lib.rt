@@ -45,10 +45,15 @@ pub fn place_at(rec: &[u8], at: usize) -> usize
     usize::from(number2_at(rec, at))
 }
 
+// Each record has one, its issuer: eight bytes are read at once, and one by one only where the record cuts them off (docs/SPEED.md).
 pub fn name_at(rec: &[u8], at: usize) -> u64
     ensures exact { result ≡ num at 8 rec.now }
 {
-    number_at(rec, at, 8)
+    let l = rest_at(rec, at);
+    if l.len() < 8 {
+        return number_at(rec, at, 8);
+    }
+    u64::from_be_bytes([l[0], l[1], l[2], l[3], l[4], l[5], l[6], l[7]])
 }
 
 // "Every byte left" from a place on: none where the record ends before it.
