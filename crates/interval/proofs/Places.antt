@@ -1,10 +1,11 @@
 -- Where the first that passes a test stands, as the library's `position` says it. Assumes nothing.
-use Rattle.std.proofs.Common.{◌≡◌, ℕ, zero, suc, ◌+◌, ◌<◌, ◌≤◌, Bool, true, false, Some, None, List, [], ◌∷◌, length, get_or, sym, ◌∙◌, arith, lt-ltb, le-ltb}
-use Rattle.std.specs.List.{position}
+use Rattle.std.proofs.Common.{◌≡◌, ℕ, ◌+◌, ◌<◌, ◌≤◌, Bool, true, false, ltb, Some, None, List, length, get_or, sym, ◌∙◌, arith, lt-ltb, le-ltb, ltb-true, ltb-false}
+use Rattle.std.specs.List.{position, position_or_len}
+use Rattle.std.proofs.lemmas.List.Sums.{passes_at_first, fails_before_first}
 use Rattle.base.specs.Lists.{any, first_at}
 use Rattle.base.specs.Laws.Keep.{first_at_any, first_at_le}
-use Rattle.base.specs.Laws.Library.{position_of, position_some, position_none}
-use Rattle.base.specs.Laws.Tests.{by_test}
+use Rattle.base.specs.Laws.Library.{first_at_of, position_of, position_some, position_none}
+use Rattle.base.specs.Laws.Tests.{by_test, no}
 
 module _ {A : Type 0} (p : A → Bool) (l : List A) where
   pub placed : (i : ℕ) → Some i ≡ position p l → (any p l ≡ true) × (i ≡ first_at p l)
@@ -17,24 +18,23 @@ module _ {A : Type 0} (p : A → Bool) (l : List A) where
 
 -- ---- looked for, one a turn: none of the first i passes
 
-module _ {A : Type 0} (p : A → Bool) (d : A) where
-  pub seeks_on : (l : List A) (i : ℕ) → i < length l → p (get_or l i d) ≡ false → i ≤ first_at p l → i + 1 ≤ first_at p l
-  seeks_on [] i h e v = absurd (omega arith)
-  seeks_on (x ∷ l) zero h e v = rw e (omega arith)
-  seeks_on (x ∷ l) (suc i) h e v =
-      by_test (p x) (λ t. absurd (let z : suc i ≤ 0 = rw t at v in omega arith))
-      (λ t. rw t (let z : suc i ≤ suc (first_at p l) = rw t at v in omega (arith, seeks_on l i (omega arith) e (omega arith))))
+module _ {A : Type 0} (p : A → Bool) (d : A) (l : List A) (i : ℕ) (h : i < length l) where
+  pub seeks_on : p (get_or l i d) ≡ false → i ≤ first_at p l → i + 1 ≤ first_at p l
+  seeks_on e v =
+      by_test (ltb i (first_at p l)) (λ t. omega (arith, ltb-true i (first_at p l) t))
+      (λ t.
+      let here : position_or_len p l ≡ i = omega (arith, first_at_of p l, ltb-false i (first_at p l) t) in
+      let passes : p (get_or l (position_or_len p l) d) ≡ true = passes_at_first p l d (omega (arith, here)) in
+      no (sym e ∙ (rw here at passes)))
 
-  pub seeks_hit : (l : List A) (i : ℕ) → i < length l → p (get_or l i d) ≡ true → i ≤ first_at p l → first_at p l ≡ i
-  seeks_hit [] i h e v = absurd (omega arith)
-  seeks_hit (x ∷ l) zero h e v = rw e
-  seeks_hit (x ∷ l) (suc i) h e v =
-      by_test (p x) (λ t. absurd (let z : suc i ≤ 0 = rw t at v in omega arith))
-      (λ t. rw t (let z : suc i ≤ suc (first_at p l) = rw t at v in omega (arith, seeks_hit l i (omega arith) e (omega arith))))
+  pub seeks_hit : p (get_or l i d) ≡ true → i ≤ first_at p l → first_at p l ≡ i
+  seeks_hit e v =
+      by_test (ltb i (first_at p l))
+      (λ t. no (sym (fails_before_first p l i d (omega (arith, first_at_of p l, ltb-true i (first_at p l) t))) ∙ e))
+      (λ t. omega (arith, ltb-false i (first_at p l) t))
 
-  pub seeks_found : (l : List A) (i : ℕ) → i < length l → p (get_or l i d) ≡ true → i ≤ first_at p l → Some i ≡ position p l
-  seeks_found l i h e v =
-      rw (position_of p l, seeks_hit l i h e v, lt-ltb i (length l) h)
+  pub seeks_found : p (get_or l i d) ≡ true → i ≤ first_at p l → Some i ≡ position p l
+  seeks_found e v = rw (position_of p l, seeks_hit e v, lt-ltb i (length l) h)
 
 module _ {A : Type 0} (p : A → Bool) (l : List A) (i : ℕ) (h : length l ≤ i) (v : i ≤ first_at p l) where
   pub seeks_end : first_at p l ≡ i
